@@ -1,0 +1,3 @@
+pub mod Plots
+pub mod Grounds
+pub mod Shown
