@@ -1,0 +1,6 @@
+pub mod Books
+pub mod Commands
+pub mod Tests
+pub mod Law
+pub mod Meaning
+pub mod Reading

@@ -1,0 +1,9 @@
+// The book: its operations and calls, and the reader that takes them from a file.
+pub mod books;
+pub mod calls;
+mod changes;
+pub mod commands;
+mod marks;
+pub mod operations;
+pub mod reading;
+pub mod tables;

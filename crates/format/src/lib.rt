@@ -1,0 +1,2 @@
+// Why files of commands are refused; what reading such a file means, and its law, stands in specs/.
+pub mod refusal;

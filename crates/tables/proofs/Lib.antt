@@ -1,0 +1,5 @@
+pub mod Finding
+pub mod Lasts
+pub mod Lent
+pub mod Long
+pub mod Trims

@@ -1,0 +1,4 @@
+pub mod Lists
+pub mod Names
+pub mod Rows
+pub mod Search
