@@ -42,11 +42,11 @@ cmds-cl : (os : List Op) (cs : List Cl) (c : Cl) → commandsOf (book os (cs ++ 
 cmds-cl os cs c = sym (joined-more ofCl (joined ofOp os) cs c)
 
 -- one more at the end of a list's last part is one more at its end
-grown : (front l l′ : List Command) (x : Command) → l′ ≡ l ++ x ∷ [] → front ++ l′ ≡ (front ++ l) ++ x ∷ []
-grown front l l′ x e = ap (λ (k : List Command). front ++ k) e ∙ sym (append-assoc front l (x ∷ []))
+pub grown : {C : Type 0} (front l l′ : List C) (x : C) → l′ ≡ l ++ x ∷ [] → front ++ l′ ≡ (front ++ l) ++ x ∷ []
+grown front l l′ x e = ap (λ k. front ++ k) e ∙ sym (append-assoc front l (x ∷ []))
 
-grown-nil : (l l′ : List Command) (x : Command) → l′ ≡ l ++ x ∷ [] → l′ ++ [] ≡ (l ++ []) ++ x ∷ []
-grown-nil l l′ x e = append-nil l′ ∙ e ∙ ap (λ (k : List Command). k ++ x ∷ []) (sym (append-nil l))
+pub grown-nil : {C : Type 0} (l l′ : List C) (x : C) → l′ ≡ l ++ x ∷ [] → l′ ++ [] ≡ (l ++ []) ++ x ∷ []
+grown-nil l l′ x e = append-nil l′ ∙ e ∙ ap (λ k. k ++ x ∷ []) (sym (append-nil l))
 
 grown-op : (os : List Op) (o o′ : Op) (x : Command) → ofOp o′ ≡ ofOp o ++ x ∷ [] → commandsOf (book (os ++ o′ ∷ []) []) ≡ commandsOf (book (os ++ o ∷ []) []) ++ x ∷ []
 grown-op os o o′ x e = cmds-op os o′ ∙ grown (commandsOf (book os [])) (ofOp o) (ofOp o′) x e ∙ ap (λ (l : List Command). l ++ x ∷ []) (sym (cmds-op os o))

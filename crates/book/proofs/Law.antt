@@ -47,7 +47,7 @@ holds = record {
   size = λ xs. omega arith;
   some = bytes-some;
   enough = λ b xs h. enough b xs (h .1 .0);
-  back = λ b xs h. back b xs (h .0) (h .1 .0) .1;
+  back = λ b xs bs h. back b xs (h .0) (h .1 .0) .1;
   keeps = λ b xs h. keeps b (commandAt xs) (back b xs (h .0) (h .1 .0) .0) (fits (h .1 .1));
   start = record { few-operations = omega arith; few-calls = omega arith; operations-apart = tt; calls-apart = tt; each-operation = tt; each-call = tt };
   nothing = refl;

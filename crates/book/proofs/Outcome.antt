@@ -6,6 +6,7 @@ use Rattle.book.specs.Books.{opName, clName, emptyBook}
 use Rattle.book.specs.Law.{bookFormat, operationName, callName}
 use Rattle.book.specs.Meaning.{bookOf, operationPlaces, callPlaces}
 use Rattle.book.specs.declared.tables.Book.{Book}
+use Rattle.format.specs.Bytes.{Bytes}
 use Rattle.format.proofs.Law.{accepts, refuses, one-writing}
 use Rattle.format.specs.Format.{readFile, answerOf, wholeLeft, refusedAt, namePlaces, Accepts, Refuses, OneWriting, Stand}
 use Rattle.format.specs.Refusals.{At}
@@ -25,18 +26,18 @@ pub record Outcome (file : List ℕ) (r : Result (Unit {0}) At) (b : Book) : Typ
   pub operationNames : Stand file (operationPlaces b) (map opName (bookOf b .operations))
   pub callNames : Stand file (callPlaces b) (map clName (bookOf b .calls))
 
-module _ (file : List ℕ) (b : Book) where
+module _ (file : List ℕ) (bs : Bytes file) (b : Book) where
   outcome : (r : Result (Unit {0}) At) → r ≡ answerOf (readFile bookFormat file) → bookOf b ≡ wholeLeft bookFormat (readFile bookFormat file) → operationPlaces b ≡ namePlaces bookFormat operationName (bookOf b) → callPlaces b ≡ namePlaces bookFormat callName (bookOf b) → Outcome file r b
   outcome r p q os cs = record {
     answer = p;
     left = q;
-    accepts = accepts bookFormat holds file r (bookOf b) p q;
-    refuses = refuses bookFormat holds file r p;
+    accepts = accepts bookFormat holds file bs r (bookOf b) p q;
+    refuses = refuses bookFormat holds file bs r p;
     apart = one-writing bookFormat holds;
     operations = os;
     calls = cs;
-    operationNames = subst (λ (ps : List ℕ). Stand file ps (map opName (bookOf b .operations))) (sym os) (operations-stand file (bookOf b) q);
-    callNames = subst (λ (ps : List ℕ). Stand file ps (map clName (bookOf b .calls))) (sym cs) (calls-stand file (bookOf b) q);
+    operationNames = subst (λ (ps : List ℕ). Stand file ps (map opName (bookOf b .operations))) (sym os) (operations-stand file bs (bookOf b) q);
+    callNames = subst (λ (ps : List ℕ). Stand file ps (map clName (bookOf b .calls))) (sym cs) (calls-stand file bs (bookOf b) q);
   }
 
   -- the file is refused, and the book is left as that of an empty file

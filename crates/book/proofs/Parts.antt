@@ -102,7 +102,7 @@ is-name n h = not-from-true (proper n) (proper-decides n .1 (h .prints))
 
 -- Marks.
 
-has-decides : (ms : List ℕ) (m : ℕ) → Decides (has ms m) (Has ms m)
+pub has-decides : (ms : List ℕ) (m : ℕ) → Decides (has ms m) (Has ms m)
 has-decides ms m = decides-by-or (λ y. eqb y m) (λ y. y ≡ m) (λ ys. has ys m) (λ y. decides-eqb y m) refl (λ _ _. refl) ms
 
 hasAll-decides : (ms ns : List ℕ) → Decides (hasAll ms ns) (All (Has ms) ns)
@@ -143,12 +143,12 @@ marks-mid most ds m ms h =
 
 -- Operations by number.
 
-nth-less : {X : Type 0} (xs : List X) (k : ℕ) → isSome (nth xs k) ≡ true → k < length xs
+pub nth-less : {X : Type 0} (xs : List X) (k : ℕ) → isSome (nth xs k) ≡ true → k < length xs
 nth-less [] k h = absurd (false≢true h)
 nth-less (x ∷ xs) zero h = omega arith
 nth-less (x ∷ xs) (suc k) h = let l = nth-less xs k h in omega arith
 
-less-nth : {X : Type 0} (xs : List X) (k : ℕ) → k < length xs → isSome (nth xs k) ≡ true
+pub less-nth : {X : Type 0} (xs : List X) (k : ℕ) → k < length xs → isSome (nth xs k) ≡ true
 less-nth [] k h = absurd (not-suc-le-zero h)
 less-nth (x ∷ xs) zero h = refl
 less-nth (x ∷ xs) (suc k) h = less-nth xs k (le-of-suc-le-suc h)

@@ -8,6 +8,7 @@ use Rattle.book.specs.declared.commands.Command.{Command}
 use Rattle.book.specs.declared.tables.Act.{Act}
 use Rattle.format.proofs.Law.{of-left}
 use Rattle.format.proofs.Places.{joined-append, places-append, Quiet, quiet-append, quiet-map, quiet-joined, Named, names-stand}
+use Rattle.format.specs.Bytes.{Bytes}
 use Rattle.format.specs.Format.{placeOf, placesIn, namePlaces, written, readFile, wholeLeft, Stand}
 use Rattle.std.proofs.shelf.Lists.{append-nil, append-assoc, take-at}
 use Rattle.std.specs.declared.option.Option.the-variants.{Some, None}
@@ -86,14 +87,14 @@ module _ (b : Bk) where
       subst₂ (λ (l ps : List ℕ). Stand l ps (map clName (b .calls))) file places (names-stand bytesOf callName ofCl clName 1 call-named (b .calls) (joined bytesOf ops) [])
 
 -- what a reader leaves: the names of the file, or none
-pub operations-stand : (file : List ℕ) (b : Bk) → b ≡ wholeLeft bookFormat (readFile bookFormat file) → Stand file (namePlaces bookFormat operationName b) (map opName (b .operations))
-operations-stand file b e = subst P (sym e) (of-left bookFormat holds file P tt (λ a w. subst (λ (l : List ℕ). Stand l (namePlaces bookFormat operationName a) (map opName (a .operations))) (sym (w .is)) (operations-written a)))
+pub operations-stand : (file : List ℕ) → Bytes file → (b : Bk) → b ≡ wholeLeft bookFormat (readFile bookFormat file) → Stand file (namePlaces bookFormat operationName b) (map opName (b .operations))
+operations-stand file bs b e = subst P (sym e) (of-left bookFormat holds file bs P tt (λ a w. subst (λ (l : List ℕ). Stand l (namePlaces bookFormat operationName a) (map opName (a .operations))) (sym (w .is)) (operations-written a)))
   where
     P : Bk → Type 0
     P a = Stand file (namePlaces bookFormat operationName a) (map opName (a .operations))
 
-pub calls-stand : (file : List ℕ) (b : Bk) → b ≡ wholeLeft bookFormat (readFile bookFormat file) → Stand file (namePlaces bookFormat callName b) (map clName (b .calls))
-calls-stand file b e = subst P (sym e) (of-left bookFormat holds file P tt (λ a w. subst (λ (l : List ℕ). Stand l (namePlaces bookFormat callName a) (map clName (a .calls))) (sym (w .is)) (calls-written a)))
+pub calls-stand : (file : List ℕ) → Bytes file → (b : Bk) → b ≡ wholeLeft bookFormat (readFile bookFormat file) → Stand file (namePlaces bookFormat callName b) (map clName (b .calls))
+calls-stand file bs b e = subst P (sym e) (of-left bookFormat holds file bs P tt (λ a w. subst (λ (l : List ℕ). Stand l (namePlaces bookFormat callName a) (map clName (a .calls))) (sym (w .is)) (calls-written a)))
   where
     P : Bk → Type 0
     P a = Stand file (namePlaces bookFormat callName a) (map clName (a .calls))

@@ -34,7 +34,7 @@ abbrev pub Made : List Command → Bk → Bk → Type 0
 Made = Ran obey Good
 
 -- a name that is apart from all others is new among those before it
-unlike : {X : Type 0} (f : X → List ℕ) (ds : List X) (o : X) (ms : List X) → Apart (map f (ds ++ o ∷ ms)) → All (λ y. y ≡ f o → ⊥) (map f ds)
+pub unlike : {X : Type 0} (f : X → List ℕ) (ds : List X) (o : X) (ms : List X) → Apart (map f (ds ++ o ∷ ms)) → All (λ y. y ≡ f o → ⊥) (map f ds)
 unlike f ds o ms h = apart-mid (map f ds) (f o) (map f ms) (subst Apart (map-append f ds (o ∷ ms)) h)
 
 -- The parts of an operation and of a call.

@@ -3,7 +3,7 @@ pub mod books;
 pub mod calls;
 mod changes;
 pub mod commands;
-mod marks;
+pub mod marks;
 pub mod operations;
 pub mod reading;
 pub mod tables;

@@ -3,7 +3,7 @@ ghost use mathlib.Core.List.{_++_};
 ghost use mathlib.Core.Path.{_≡_};
 
 // Whether the mark is one of those.
-pub(crate) fn has(marks: &[u8], mark: u8) -> bool
+pub fn has(marks: &[u8], mark: u8) -> bool
     ensures { λ r. ⌜ r ≡ hasMark (now (marks .entry)) mark ⌝ }
 {
     for other in marks {

@@ -12,6 +12,7 @@ ghost use mathlib.Core.List.{_++_, map};
 ghost use mathlib.Core.Path.{_≡_};
 use crate::commands::read_command;
 use crate::tables::Book;
+use format::files::byte_count;
 use format::refusal::Refusal;
 use format::refusal::Refused;
 
@@ -45,7 +46,7 @@ pub fn read_book(file: &[u8], book: &mut Book) -> Result<(), Refused>
     ensures callNames { λ _. ⌜ Stand (now (file .entry)) (callPlaces (now (book .exit))) (map clName (bookOf (now (book .exit)) .calls)) ⌝ }
 {
     *book = Book::empty();
-    if file.len() > LONGEST {
+    if byte_count(file) > LONGEST {
         return Err(Refused {
             refusal: Refusal::OverCount,
             offset: 0,

@@ -1,34 +1,17 @@
 // Files read as books: one table of refusals, the counts, the lengths, and the example cut short and changed.
+use crate::files::BOOK;
+use crate::files::Case;
+use crate::files::refused;
+use crate::files::repeated;
 use book::reading::read_book;
 use book::tables::Book;
 use format::refusal::Refused;
-use std::alloc::Global;
 use std::test::*;
-
-// The example book: three operations, and the calls bury, show and ping.
-const EXAMPLE: &[u8; 81] =
-    b"\x80reg.put \x10\x01\x10\x02\x80reg.look\x10\x01\x80overwrit\x10\xff\x81bury    \x10\x01\x10\x02\x10\x03\x11\x00\x12\x02\x20\x02\x01\x81show    \x10\x01\x11\x01\x12\x01\x81ping    ";
-
-// A file, and the number and the offset with which it is refused.
-#[derive(Clone, Copy)]
-struct Case {
-    file: &'static [u8],
-    number: u8,
-    offset: u32,
-}
-
-fn refused(file: &'static [u8], number: u8, offset: u32) -> Case {
-    Case {
-        file,
-        number,
-        offset,
-    }
-}
 
 // A refused file leaves no operation and no call behind, whatever the book held before.
 fn check_refused(file: &[u8], number: u8, offset: u32) -> Result<(), Fail> {
     let mut book = Book::empty();
-    check(read_book(EXAMPLE, &mut book).is_ok())?;
+    check(read_book(BOOK, &mut book).is_ok())?;
     match read_book(file, &mut book) {
         Ok(()) => Err(Fail::new("read")),
         Err(
@@ -126,33 +109,27 @@ fn missing_marks_are_refused() -> Result<(), Fail> {
     )
 }
 
-// A first part, and then a part that stands once more than it may; the last of them is refused with 4.
-// From part to part its last byte, an operand or the last letter of a name, grows by that much.
-fn check_count(heap: Global, first: &[u8], part: &[u8], most: u32, grows: u32) -> Result<(), Fail> {
-    let mut file = Vec::new(heap);
-    file.extend_from_slice(first)?;
-    let mut offset = 0;
-    for number in 0..most.saturating_add(1) {
-        offset = file.len();
-        file.extend_from_slice(part)?;
-        if let Some(last) = file.last_mut() {
-            *last = last.saturating_add((number.saturating_mul(grows) % 256) as u8);
-        }
-    }
-    check(offset < 32768)?;
-    check_refused(file.as_slice(), 4, offset as u32)
+// A part that stands once more than it may: the last is refused with 4.
+fn check_count(
+    rt: &LibcRuntime,
+    first: &[u8],
+    part: &[u8],
+    most: u32,
+    grows: u32,
+) -> Result<(), Fail> {
+    let long = repeated(rt.alloc(), first, part, most.saturating_add(1), grows)?;
+    check_refused(long.file.as_slice(), 4, long.last)
 }
 
 #[test]
 fn counts_are_refused(rt: LibcRuntime) -> Result<(), Fail> {
-    let heap = rt.alloc();
-    check_count(heap, b"", b"\x80oper... ", 64, 1)?;
-    check_count(heap, b"\x80a       ", b"\x10\x01", 6, 1)?;
-    check_count(heap, b"", b"\x81call... ", 64, 1)?;
-    check_count(heap, b"\x81a       ", b"\x10\x01", 8, 1)?;
-    check_count(heap, b"\x80a       \x81a       ", b"\x11\x00", 8, 0)?;
+    check_count(&rt, b"", b"\x80oper... ", 64, 1)?;
+    check_count(&rt, b"\x80a       ", b"\x10\x01", 6, 1)?;
+    check_count(&rt, b"", b"\x81call... ", 64, 1)?;
+    check_count(&rt, b"\x81a       ", b"\x10\x01", 8, 1)?;
+    check_count(&rt, b"\x80a       \x81a       ", b"\x11\x00", 8, 0)?;
     check_count(
-        heap,
+        &rt,
         b"\x80a       \x81a       \x10\x01\x12\x01",
         b"\x20\x00\x00",
         8,
@@ -172,7 +149,7 @@ fn lengths_are_tested_first(rt: LibcRuntime) -> Result<(), Fail> {
 fn each_beginning_of_the_example_is_a_book_or_cut_off() -> Result<(), Fail> {
     let mut books = 0u32;
     for length in 0..82usize {
-        let Some(part) = EXAMPLE.get(0..length) else {
+        let Some(part) = BOOK.get(0..length) else {
             return Err(Fail::new("too long"));
         };
         let mut book = Book::empty();
@@ -189,7 +166,7 @@ fn each_byte_of_the_example_changed_is_a_book_or_refused() -> Result<(), Fail> {
     let mut books = 0u32;
     for place in 0..81usize {
         for byte in 0..=255u8 {
-            let mut file = *EXAMPLE;
+            let mut file = *BOOK;
             file[place] = byte;
             let mut book = Book::empty();
             match read_book(&file, &mut book) {

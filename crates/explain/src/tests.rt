@@ -1,11 +1,17 @@
 // Examples of steps that the shipped book does not have.
-use crate::lines::AfterLine;
-use crate::lines::AfterLineDisplay;
-use crate::lines::BeforeLine;
-use crate::lines::BeforeLineDisplay;
+use crate::book_lines::AfterLine;
+use crate::book_lines::AfterLineDisplay;
+use crate::book_lines::BeforeLine;
+use crate::book_lines::BeforeLineDisplay;
+use crate::policy_lines::ClauseLine;
+use crate::policy_lines::ClauseLineDisplay;
+use crate::policy_lines::GroupLine;
+use crate::policy_lines::GroupLineDisplay;
 use book::reading::read_book;
 use book::tables::Book;
 use book::tables::Condition;
+use policy::reading::read_policy;
+use policy::tables::Table;
 use std::test::*;
 
 // Operation 0 takes marks 1, 2 and the answer, operation 1 the mark 3, and operation 2 nothing.
@@ -47,5 +53,38 @@ fn steps_are_told(rt: LibcRuntime) -> Result<(), Fail> {
     check_eq(
         line.to_string(rt.alloc())?.as_str(),
         "  before 1: none takes no marks",
+    )
+}
+
+// Group 0 has operations 0 and 1; a clause on it takes 7 from cell 0 when two conditions hold.
+const POLICY: &[u8; 51] =
+    b"\x40\x00\x00\x00\x05\x00\x10\x00\x10\x01\x91\x00spare   \xb0\x02\x02\x00\x00\x00\x00\x00\x00\x00\x00\x09\xb0\x01\x02\x00\x00\x00\x00\x00\x00\x00\x00\x00\x62\x00\x00\x00\x00\x00\x07";
+
+#[test]
+fn a_group_and_its_clause_are_told(rt: LibcRuntime) -> Result<(), Fail> {
+    let mut book = Book::empty();
+    check(read_book(BOOK, &mut book).is_ok())?;
+    let mut table = Table::empty();
+    check(read_policy(POLICY, &book, &mut table).is_ok())?;
+    let line = GroupLine {
+        number: 0,
+        book: &book,
+        covers: table.coverage(0),
+    };
+    check_eq(
+        line.to_string(rt.alloc())?.as_str(),
+        "group 0: covers all, own",
+    )?;
+    let Some(clause) = table.clauses().first() else {
+        return Err(Fail::new("no clause"));
+    };
+    let line = ClauseLine {
+        number: 0,
+        book: &book,
+        clause,
+    };
+    check_eq(
+        line.to_string(rt.alloc())?.as_str(),
+        "clause 0: spare on all, own: when cell 0 is less than 9 and cell 0 is not 0, take 7 from cell 0",
     )
 }

@@ -1,7 +1,7 @@
 -- A command's bytes, read one by one and written one after the other.
 use Prim.Native.Nat.{ℕ, zero, suc, _+_, _/_, _≤_}
-use Rattle.format.specs.Bytes.{byteAt, sizeAt, cutOff}
-use Rattle.std.proofs.shelf.Lists.{drop-more, take-append-drop, length-append, take-at, drop-at}
+use Rattle.format.specs.Bytes.{Bytes, byteAt, sizeAt, cutOff}
+use Rattle.std.proofs.shelf.Lists.{getD-drop, drop-more, take-append-drop, length-append, take-at, drop-at}
 use Rattle.std.proofs.shelf.Tests.{not-from-true}
 use borrow.Author.Tests.{leb-true, le-leb, eqb-true, not-false}
 use lib.Dec.{leb, eqb}
@@ -10,6 +10,10 @@ use mathlib.Core.Bool.{true, false}
 use mathlib.Core.List.{List, [], _∷_, _++_}
 use mathlib.Core.Path.{_≡_, _∙_, refl, sym, ap}
 use native.Mathlib.Omega.{arith}
+
+-- bytes behind bytes are bytes
+pub bytes-drop : (k : ℕ) (xs : List ℕ) → Bytes xs → Bytes (drop k xs)
+bytes-drop k xs h i = omega (arith, h (k + i), getD-drop k xs i 0)
 
 -- n bytes from place i on, one by one
 abbrev pub gets : ℕ → ℕ → List ℕ → List ℕ

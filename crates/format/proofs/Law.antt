@@ -1,8 +1,10 @@
 -- The law of reading, for every format that shows what it has to.
 use Prim.Native.Nat.{ℕ, zero, suc, _+_, _-_, _<_, _≤_}
+use Rattle.format.proofs.Bytes.{bytes-drop}
 use Rattle.format.proofs.Places.{joined-push}
 use Rattle.format.proofs.Tests.{failed, fails}
 use Rattle.format.proofs.Turns.{taken, shorter, goes-on, stops, short-file, long-file}
+use Rattle.format.specs.Bytes.{Bytes}
 use Rattle.format.specs.Format.Because.{too-long, stopped, left-open}
 use Rattle.format.specs.Format.{Format, Holds, Runs, Stops, refusedAt, stepOf, go, readFile, written, Writes, Begins, Stopped, Because, Accepts, Refuses, OneWriting, answerOf, wholeLeft}
 use Rattle.format.specs.Refusals.{At}
@@ -82,13 +84,13 @@ module _ (F : Format) (H : Holds F) where
   Sound file (Ok b) = Writes F b file
   Sound file (Err e) = length file ≤ F .longest → Because F file (e .number) (e .offset)
 
-  more : (pre xs : List ℕ) (b a : F .Whole) (rest : List ℕ) → Begins F b pre → Ok (a, rest) ≡ stepOf F xs b → (new : List ℕ) × (xs ≡ new ++ rest) × Begins F a (pre ++ new)
-  more pre xs b a rest w e =
+  more : (pre xs : List ℕ) (b a : F .Whole) (rest : List ℕ) → Bytes xs → Begins F b pre → Ok (a, rest) ≡ stepOf F xs b → (new : List ℕ) × (xs ≡ new ++ rest) × Bytes rest × Begins F a (pre ++ new)
+  more pre xs b a rest bs w e =
       let c = F .commandAt xs in
       let k = taken F H xs b a rest e in
       let m = H .keeps b xs (k .clear) (w .so-far) in
       let v : Begins F (F .obey b c) (pre ++ F .bytesOf c) = record { so-far = m .0; is = ap (λ (l : List ℕ). l ++ F .bytesOf c) (w .is) ∙ sym (joined-push (F .bytesOf) (F .commandsOf b) c) ∙ ap (joined (F .bytesOf)) (sym (m .1)) } in
-      (F .bytesOf c, H .back b xs (k .clear) ∙ ap (λ (l : List ℕ). F .bytesOf c ++ l) (sym (k .behind)), subst (λ (d : F .Whole). Begins F d (pre ++ F .bytesOf c)) (sym (k .made)) v)
+      (F .bytesOf c, H .back b xs bs (k .clear) ∙ ap (λ (l : List ℕ). F .bytesOf c ++ l) (sym (k .behind)), subst Bytes (sym (k .behind)) (bytes-drop (F .sizeAt xs) xs bs), subst (λ (d : F .Whole). Begins F d (pre ++ F .bytesOf c)) (sym (k .made)) v)
 
   halted : (pre xs : List ℕ) (b : F .Whole) (n : ℕ) → 0 < length xs → Begins F b pre → Err n ≡ stepOf F xs b → length (pre ++ xs) ≤ F .longest → Stopped F (pre ++ xs) n (length pre)
   halted pre xs b n l w e k = record { short = k; more = omega (arith, length-append pre xs); whole = b; up-to = subst (Begins F b) (sym (take-at pre xs (length pre) refl)) w; there = subst (Stops (F .tests) n b) (sym (drop-at pre xs (length pre) refl)) (failed b xs (pair xs b) (F .tests) n e) }
@@ -97,15 +99,15 @@ module _ (F : Format) (H : Holds F) where
   at-end pre b w true u = λ k. left-open (record { whole = b; up-to = w; there = u }) refl refl
   at-end pre b w false u = record { lawful = H .ended b (w .so-far) u; is = w .is }
 
-  sound : (n : ℕ) (pre xs : List ℕ) (b : F .Whole) → length xs ≤ n → Begins F b pre → Sound (pre ++ xs) (go F 0 xs (length pre) b)
-  sound n pre [] b h w = subst (λ (l : List ℕ). Sound l (go F 0 [] (length pre) b)) (sym (append-nil pre)) (at-end pre b w (F .unfinished b) refl)
-  sound zero pre (x ∷ xs) b h w = absurd (not-suc-le-zero h)
-  sound (suc n) pre (x ∷ xs) b h w = at (stepOf F (x ∷ xs) b) refl (sound n)
+  sound : (n : ℕ) (pre xs : List ℕ) (b : F .Whole) → length xs ≤ n → Bytes xs → Begins F b pre → Sound (pre ++ xs) (go F 0 xs (length pre) b)
+  sound n pre [] b h bs w = subst (λ (l : List ℕ). Sound l (go F 0 [] (length pre) b)) (sym (append-nil pre)) (at-end pre b w (F .unfinished b) refl)
+  sound zero pre (x ∷ xs) b h bs w = absurd (not-suc-le-zero h)
+  sound (suc n) pre (x ∷ xs) b h bs w = at (stepOf F (x ∷ xs) b) refl (sound n)
     where
-      at : (r : Result Step ℕ) → r ≡ stepOf F (x ∷ xs) b → ((pre′ xs′ : List ℕ) (b′ : F .Whole) → length xs′ ≤ n → Begins F b′ pre′ → Sound (pre′ ++ xs′) (go F 0 xs′ (length pre′) b′)) → Sound (pre ++ x ∷ xs) (go F 0 (x ∷ xs) (length pre) b)
+      at : (r : Result Step ℕ) → r ≡ stepOf F (x ∷ xs) b → ((pre′ xs′ : List ℕ) (b′ : F .Whole) → length xs′ ≤ n → Bytes xs′ → Begins F b′ pre′ → Sound (pre′ ++ xs′) (go F 0 xs′ (length pre′) b′)) → Sound (pre ++ x ∷ xs) (go F 0 (x ∷ xs) (length pre) b)
       at (Err m) e f = subst (Sound (pre ++ x ∷ xs)) (sym (stops F H (x ∷ xs) (length pre) b m (omega arith) e)) (λ k. stopped (halted pre (x ∷ xs) b m (omega arith) w e k))
       at (Ok p) e f =
-          let m = more pre (x ∷ xs) b (p .0) (p .1) w e in
+          let m = more pre (x ∷ xs) b (p .0) (p .1) bs w e in
           let new = m .0 in
           let rest = p .1 in
           let l = length-append new rest in
@@ -114,7 +116,7 @@ module _ (F : Format) (H : Holds F) where
           let i : length pre + (suc (length xs) - length rest) ≡ length (pre ++ new) = omega (arith, length-append pre new) in
           let g = goes-on F H (x ∷ xs) (length pre) b (p .0) rest (omega arith) e ∙ ap (λ (k : ℕ). go F 0 rest k (p .0)) i in
           let o = ap (λ (k : List ℕ). pre ++ k) (m .1) ∙ sym (append-assoc pre new rest) in
-          let s : Sound ((pre ++ new) ++ rest) (go F 0 rest (length (pre ++ new)) (p .0)) = f (pre ++ new) rest (p .0) (omega arith) (m .2) in
+          let s : Sound ((pre ++ new) ++ rest) (go F 0 rest (length (pre ++ new)) (p .0)) = f (pre ++ new) rest (p .0) (omega arith) (m .2) (m .3) in
           subst (λ (k : List ℕ). Sound k (go F 0 (x ∷ xs) (length pre) b)) (sym o) (subst (Sound ((pre ++ new) ++ rest)) (sym g) s)
 
   empty-begins : Begins F (F .empty) []
@@ -128,12 +130,12 @@ module _ (F : Format) (H : Holds F) where
   from-sound file (Ok b) h s = s
   from-sound file (Err e) h s = s h
 
-  told-at : (file : List ℕ) (t : Bool) → ltb (F .longest) (length file) ≡ t → Told file (cond t (Err (refusedAt 4 0)) (go F 0 file 0 (F .empty)))
-  told-at file true e = too-long (leb-true (suc (F .longest)) (length file) e) refl refl
-  told-at file false e = from-sound file (go F 0 file 0 (F .empty)) (omega (arith, leb-false (suc (F .longest)) (length file) e)) (sound (length file) [] file (F .empty) (omega arith) empty-begins)
+  told-at : (file : List ℕ) → Bytes file → (t : Bool) → ltb (F .longest) (length file) ≡ t → Told file (cond t (Err (refusedAt 4 0)) (go F 0 file 0 (F .empty)))
+  told-at file bs true e = too-long (leb-true (suc (F .longest)) (length file) e) refl refl
+  told-at file bs false e = from-sound file (go F 0 file 0 (F .empty)) (omega (arith, leb-false (suc (F .longest)) (length file) e)) (sound (length file) [] file (F .empty) (omega arith) bs empty-begins)
 
-  told : (file : List ℕ) → Told file (readFile F file)
-  told file = told-at file (ltb (F .longest) (length file)) refl
+  told : (file : List ℕ) → Bytes file → Told file (readFile F file)
+  told file bs = told-at file bs (ltb (F .longest) (length file)) refl
 
   found : (file : List ℕ) (o : Result (F .Whole) At) → Told file o → answerOf o ≡ Ok tt → Writes F (wholeLeft F o) file
   found file (Ok b) s e = s
@@ -146,16 +148,16 @@ module _ (F : Format) (H : Holds F) where
   -- The law.
 
   -- a reader that answers and leaves what the file reads as accepts as it should
-  pub accepts : (file : List ℕ) (r : Result (Unit {0}) At) (b : F .Whole) → r ≡ answerOf (readFile F file) → b ≡ wholeLeft F (readFile F file) → Accepts F file r b
-  accepts file r b p q = subst₂ (Accepts F file) (sym p) (sym q) (found file (readFile F file) (told file), λ c w. let e = is-read file c w in (ap answerOf e, ap (wholeLeft F) e))
+  pub accepts : (file : List ℕ) → Bytes file → (r : Result (Unit {0}) At) (b : F .Whole) → r ≡ answerOf (readFile F file) → b ≡ wholeLeft F (readFile F file) → Accepts F file r b
+  accepts file bs r b p q = subst₂ (Accepts F file) (sym p) (sym q) (found file (readFile F file) (told file bs), λ c w. let e = is-read file c w in (ap answerOf e, ap (wholeLeft F) e))
 
   -- and refuses as it should
-  pub refuses : (file : List ℕ) (r : Result (Unit {0}) At) → r ≡ answerOf (readFile F file) → Refuses F file r
-  refuses file r p = subst (Refuses F file) (sym p) (λ n o. (λ h. lost file (readFile F file) (told file) (refusedAt n o) h, λ s. ap answerOf (is-refused file n o s)))
+  pub refuses : (file : List ℕ) → Bytes file → (r : Result (Unit {0}) At) → r ≡ answerOf (readFile F file) → Refuses F file r
+  refuses file bs r p = subst (Refuses F file) (sym p) (λ n o. (λ h. lost file (readFile F file) (told file bs) (refusedAt n o) h, λ s. ap answerOf (is-refused file n o s)))
 
   -- what holds of the empty whole, and of the whole whose writing the file is, holds of what a reader leaves
-  pub of-left : (file : List ℕ) (P : F .Whole → Type 0) → P (F .empty) → ((b : F .Whole) → Writes F b file → P b) → P (wholeLeft F (readFile F file))
-  of-left file P p f = at (readFile F file) (told file)
+  pub of-left : (file : List ℕ) → Bytes file → (P : F .Whole → Type 0) → P (F .empty) → ((b : F .Whole) → Writes F b file → P b) → P (wholeLeft F (readFile F file))
+  of-left file bs P p f = at (readFile F file) (told file bs)
     where
       at : (o : Result (F .Whole) At) → Told file o → P (wholeLeft F o)
       at (Ok b) s = f b s

@@ -1,7 +1,9 @@
 -- The turns of a reader that goes through a file command by command.
 use Prim.Native.Nat.{ℕ, zero, suc, _+_, _-_, _<_, _≤_}
+use Rattle.format.proofs.Bytes.{bytes-drop}
 use Rattle.format.proofs.Places.{joined-push, places-push}
 use Rattle.format.proofs.Tests.{passed}
+use Rattle.format.specs.Bytes.{Bytes}
 use Rattle.format.specs.Format.{Format, Holds, Passes, turn, refusedAt, stepOf, go, readFile, written, placeOf, placesIn, namePlaces}
 use Rattle.std.proofs.shelf.Lists.{length-append, length-drop}
 use Rattle.std.proofs.shelf.Tests.{cond-false, cond-true}
@@ -21,6 +23,7 @@ use native.Mathlib.Omega.{arith}
 -- where a reader stands: what is left to read from its offset on gives what the whole file gives, and what it read is the writing of b
 pub record Turn (F : Format) (file rest : List ℕ) (at : ℕ) (b : F .Whole) : Type 0 where
   pub short : length file ≤ F .longest
+  pub bytes : Bytes rest
   pub same : readFile F file ≡ go F 0 rest at b
   pub so-far : F .SoFar b
   pub read : at ≡ length (written F b)
@@ -102,8 +105,8 @@ module _ (F : Format) (H : Holds F) where
   long-file file h = cond-true (ltb (F .longest) (length file)) (Err (refusedAt 4 0)) (go F 0 file 0 (F .empty)) (le-leb (suc (F .longest)) (length file) h)
 
   -- before the first turn
-  pub first-turn : (file : List ℕ) → length file ≤ F .longest → Turn F file file 0 (F .empty)
-  first-turn file h = record { short = h; same = short-file file h; so-far = H .start; read = sym (ap (λ (cs : List (F .Command)). length (joined (F .bytesOf) cs)) (H .nothing)); left = zero-add (length file) }
+  pub first-turn : (file : List ℕ) → Bytes file → length file ≤ F .longest → Turn F file file 0 (F .empty)
+  first-turn file bs h = record { short = h; bytes = bs; same = short-file file h; so-far = H .start; read = sym (ap (λ (cs : List (F .Command)). length (joined (F .bytesOf) cs)) (H .nothing)); left = zero-add (length file) }
 
   module _ (file rest : List ℕ) (at : ℕ) (b : F .Whole) (t : Turn F file rest at b) where
     -- the places of names after a step: those before it, and that of the command's own name where it has one
@@ -124,12 +127,12 @@ module _ (F : Format) (H : Holds F) where
         let m = H .keeps b rest (k .clear) (t .so-far) in
         let s = shorter rest b a after e in
         let w : written F (F .obey b c) ≡ written F b ++ F .bytesOf c = ap (joined (F .bytesOf)) (m .1) ∙ joined-push (F .bytesOf) (F .commandsOf b) c in
-        let d : rest ≡ F .bytesOf c ++ after = H .back b rest (k .clear) ∙ ap (λ (l : List ℕ). F .bytesOf c ++ l) (sym (k .behind)) in
+        let d : rest ≡ F .bytesOf c ++ after = H .back b rest (t .bytes) (k .clear) ∙ ap (λ (l : List ℕ). F .bytesOf c ++ l) (sym (k .behind)) in
         let p : length rest ≡ length (F .bytesOf c) + length after = ap length d ∙ length-append (F .bytesOf c) after in
         let q : length (written F a) ≡ length (written F b) + length (F .bytesOf c) = ap (λ (x : F .Whole). length (written F x)) (k .made) ∙ ap length w ∙ length-append (written F b) (F .bytesOf c) in
         let i = t .read in
         let j = t .left in
-        record { short = t .short; same = t .same ∙ goes-on rest at b a after h e; so-far = subst (F .SoFar) (sym (k .made)) (m .0); read = omega arith; left = omega arith }
+        record { short = t .short; bytes = subst Bytes (sym (k .behind)) (bytes-drop (F .sizeAt rest) rest (t .bytes)); same = t .same ∙ goes-on rest at b a after h e; so-far = subst (F .SoFar) (sym (k .made)) (m .0); read = omega arith; left = omega arith }
 
     -- a step that was refused
     pub last-turn : (n : ℕ) → 0 < length rest → Err n ≡ stepOf F rest b → readFile F file ≡ Err (refusedAt n at)

@@ -1,9 +1,13 @@
 -- The bytes of a command: the first names it and says, divided by 16, how many operand bytes follow.
-use Prim.Native.Nat.{ℕ, suc, _/_}
+use Prim.Native.Nat.{ℕ, suc, _/_, _<_}
 use lib.Dec.{leb}
 use lib.ListN.{length, getD}
 use mathlib.Core.Bool.{Bool, not}
 use mathlib.Core.List.{List}
+
+-- each number is a byte
+abbrev pub Bytes : List ℕ → Type 0
+Bytes xs = (i : ℕ) → getD xs i 0 < 256
 
 -- the first byte
 abbrev pub byteAt : List ℕ → ℕ

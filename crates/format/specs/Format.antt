@@ -10,6 +10,7 @@ use Rattle.std.specs.declared.option.Option.{Option}
 use Rattle.std.specs.declared.option.Option.the-variants.{Some, None}
 use Rattle.std.specs.declared.result.Result.{Result}
 use Rattle.std.specs.declared.result.Result.the-variants.{Ok, Err}
+use Rattle.format.specs.Bytes.{Bytes}
 use Rattle.format.specs.Refusals.{At}
 
 -- a format: what it is to read, to obey and to write the commands of a kind of file
@@ -177,8 +178,8 @@ pub record Holds (F : Format) : Type 0 where
   pub size : (xs : List ℕ) → 0 < F .sizeAt xs
   pub some : (c : F .Command) → 0 < length (F .bytesOf c)
   pub enough : (b : F .Whole) (xs : List ℕ) → Passes F b xs → F .sizeAt xs ≤ length xs
-  -- the bytes read as a command are the bytes that it is written as
-  pub back : (b : F .Whole) (xs : List ℕ) → Passes F b xs → xs ≡ F .bytesOf (F .commandAt xs) ++ drop (F .sizeAt xs) xs
+  -- what is read as a command, of numbers that are bytes, are the bytes that it is written as
+  pub back : (b : F .Whole) (xs : List ℕ) → Bytes xs → Passes F b xs → xs ≡ F .bytesOf (F .commandAt xs) ++ drop (F .sizeAt xs) xs
   -- a command that passes the tests keeps the whole lawful so far, and its commands are one more
   pub keeps : (b : F .Whole) (xs : List ℕ) → Passes F b xs → F .SoFar b → F .SoFar (F .obey b (F .commandAt xs)) × (F .commandsOf (F .obey b (F .commandAt xs)) ≡ F .commandsOf b ++ F .commandAt xs ∷ [])
   -- the empty whole is lawful so far and has no commands

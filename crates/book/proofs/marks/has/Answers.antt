@@ -4,6 +4,7 @@ use Rattle.book.specs.Tests.{has}
 use Rattle.std.proofs.shelf.Lists.{at-drop-more, at-drop-all}
 use borrow.Author.Needs.{needs}
 use mathlib.Core.List.{List}
+use mathlib.Core.Path.{_≡_}
 use native.Mathlib.Omega.{arith}
 
 pub loop-other-again : need.loop-other-again

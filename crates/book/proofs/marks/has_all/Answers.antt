@@ -6,6 +6,7 @@ use Rattle.std.proofs.shelf.Lists.{at-drop-more, at-drop-all}
 use borrow.Author.Needs.{needs}
 use lib.ListN.{getD}
 use mathlib.Core.List.{List, _++_}
+use mathlib.Core.Path.{_≡_}
 use native.Mathlib.Omega.{arith}
 
 pub loop-mark-again : need.loop-mark-again

@@ -12,14 +12,14 @@ use Rattle.format.specs.Refusals.{numberOf}
 use borrow.Author.Needs.{needs}
 use lib.ListN.{length}
 use mathlib.Core.List.{List, _++_}
-use mathlib.Core.Path.{_∙_, sym, ap, subst}
+use mathlib.Core.Path.{_≡_, _∙_, sym, ap, subst}
 use native.Mathlib.Omega.{arith}
 
 pub loop-rest-holds : need.loop-rest-holds
 loop-rest-holds c =
     let f = c .args .file .now in
     let is = c .empty .ensures .is in (
-      subst (λ (b : Bk). Turn bookFormat f f 0 b) (sym is) (first-turn bookFormat holds f (omega arith)),
+      subst (λ (b : Bk). Turn bookFormat f f 0 b) (sym is) (first-turn bookFormat holds f (c .byte-count .ensures .bytes) (omega arith)),
       c .empty .ensures .operations ∙ sym (ap (namePlaces bookFormat operationName) is),
       c .empty .ensures .calls ∙ sym (ap (namePlaces bookFormat callName) is),
     )
@@ -50,11 +50,12 @@ loop-rest-again c =
       stepped .calls ∙ ap (λ (l : List ℕ). l ++ placeOf (callName (commandAt rest)) at) (c .loop-rest .inv .2) ∙ sym (turn-places bookFormat holds f rest at b turn callName a after (stepped .is)),
     )
 
-pub returns-then-file-gt-LONGEST : need.returns-then-file-gt-LONGEST
-returns-then-file-gt-LONGEST c =
+pub returns-then-byte-count-gt-LONGEST : need.returns-then-byte-count-gt-LONGEST
+returns-then-byte-count-gt-LONGEST c =
     let f = c .args .file .now in
     let empty = c .empty .ensures in
-    let w = refused f (c .empty .result) 4 0 (long-file bookFormat holds f (c .if-file-gt-LONGEST .taken)) (empty .is) (empty .operations) (empty .calls) in
+    let h : 32767 < length f = omega (arith, c .byte-count .ensures .count, c .if-byte-count-gt-LONGEST .taken) in
+    let w = refused f (c .byte-count .ensures .bytes) (c .empty .result) 4 0 (long-file bookFormat holds f h) (empty .is) (empty .operations) (empty .calls) in
     record { answer = w .answer; left = w .left; accepts = w .accepts; refuses = w .refuses; apart = w .apart; operations = w .operations; calls = w .calls; operationNames = w .operationNames; callNames = w .callNames }
 
 pub returns-in-Err : need.returns-in-Err
@@ -66,7 +67,7 @@ returns-in-Err c =
     let h : 0 < length rest = search needs in
     let e = last-turn bookFormat holds f rest at (bookOf (c .loop-rest .book)) (c .loop-rest .inv .0) n h (c .in-Err .ensures tt .is) in
     let empty = c .empty-in-Err .ensures in
-    let w = refused f (c .empty-in-Err .result) n at e (empty .is) (empty .operations) (empty .calls) in
+    let w = refused f (c .byte-count .ensures .bytes) (c .empty-in-Err .result) n at e (empty .is) (empty .operations) (empty .calls) in
     record { answer = w .answer; left = w .left; accepts = w .accepts; refuses = w .refuses; apart = w .apart; operations = w .operations; calls = w .calls; operationNames = w .operationNames; callNames = w .callNames }
 
 pub returns : need.returns
@@ -75,5 +76,5 @@ returns c =
     let rest = c .loop-rest .rest .now in
     let h : length rest ≤ 0 = search needs in
     let e = end-turn bookFormat holds f rest (c .loop-rest .offset) (bookOf (c .loop-rest .book)) (c .loop-rest .inv .0) h in
-    let w = accepted f (c .loop-rest .book) e (c .loop-rest .inv .1) (c .loop-rest .inv .2) in
+    let w = accepted f (c .byte-count .ensures .bytes) (c .loop-rest .book) e (c .loop-rest .inv .1) (c .loop-rest .inv .2) in
     record { answer = w .answer; left = w .left; accepts = w .accepts; refuses = w .refuses; apart = w .apart; operations = w .operations; calls = w .calls; operationNames = w .operationNames; callNames = w .callNames }

@@ -1,0 +1,6 @@
+use Rattle.policy.proofs.tables.Table.group_count.Needs as need
+use Rattle.std.proofs.shelf.Lists.{length-map}
+use borrow.Author.Needs.{needs}
+
+pub returns : need.returns
+returns c = search (needs, length-map)
