@@ -1,4 +1,6 @@
 // The tables of a book: its operations and calls, how they change and what may be asked of them.
+#![tactic(auto)]
+
 pub mod books;
 pub mod calls;
 pub mod changes;

@@ -1,4 +1,6 @@
 // Worked cases of files that are read or refused, and of tables that are marked.
+#![tactic(auto)]
+
 #[cfg(test)]
 mod books;
 #[cfg(test)]

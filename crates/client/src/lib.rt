@@ -1,4 +1,6 @@
 // A client of a run: it lends its numbers to a run for the time of one script call.
+#![tactic(auto)]
+
 ghost use Rattle.policy.specs.Meaning.{table_of};
 ghost use Rattle.register.specs.Plots.{cut};
 ghost use Rattle.run.specs.Calls.{call_of};

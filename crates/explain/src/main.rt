@@ -1,5 +1,7 @@
 // Prints the book and the policy of the current folder in words, with what matters and why, for
 // whoever reviews a change.
+#![tactic(auto)]
+
 mod book_lines;
 mod matters;
 mod policy_lines;

@@ -1,4 +1,6 @@
 // Records the burials of a file in an old ground and its extension, and prints what each found.
+#![tactic(auto)]
+
 mod burials;
 mod lines;
 mod reading;

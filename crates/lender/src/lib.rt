@@ -1,4 +1,6 @@
 // A lender of memory: it lends its numbers to registers, puts an entry through them, and knows all its numbers afterwards.
+#![tactic(auto)]
+
 ghost use Rattle.std.specs.Prelude.{◌≡◌};
 ghost use Rattle.register.specs.Plots.{entry_at, numbers_after, cut};
 ghost use Rattle.register.specs.Grounds.{both_plots, first_numbers, second_numbers};

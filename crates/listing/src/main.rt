@@ -1,5 +1,7 @@
 // Lists, for the book and the policy of the current folder, which cells and clauses are meaningful
 // and how many steps of each call are kept.
+#![tactic(auto)]
+
 mod lines;
 
 use lines::listing;

@@ -1,5 +1,5 @@
 -- What a lender knows of its numbers from what the registers over them promised.
-use Rattle.std.proofs.Common.{◌≡◌, ℕ, List, ◌++◌, length, take, drop, sym, ap, ◌∙◌, Bor}
+use Rattle.std.proofs.Common.{◌≡◌, ℕ, List, ◌++◌, length, take, drop, sym, ap, ◌∙◌, MutBor}
 use Rattle.std.proofs.lemmas.List.{take-append-drop, take_at, drop_at}
 use Rattle.register.specs.Plots.{most, cut}
 use Rattle.register.specs.Grounds.{SameLoan, SameSeam, both_plots, first_numbers, second_numbers}
@@ -9,7 +9,7 @@ pub rejoined : (n : ℕ) (xs fs bs : List ℕ) → take n xs ≡ fs → drop n x
 rejoined n xs fs bs e f = sym (take-append-drop n xs) ∙ (ap (λ l. l ++ drop n xs) e ∙ ap (λ l. fs ++ l) f)
 
 -- two loans under a joined register whose plots have become what f makes of them
-module _ (x y x' y' : Bor (List ℕ)) (f : List ℕ → List ℕ)
+module _ (x y x' y' : MutBor (List ℕ)) (f : List ℕ → List ℕ)
     (p : cut (both_plots x'.now y'.now) ≡ f (cut (both_plots x.now y.now)))
     (s : SameLoan x x') (t : SameLoan y y')
     (j : SameSeam (cut x.now) (cut y.now) (cut x'.now) (cut y'.now)) where

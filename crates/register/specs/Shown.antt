@@ -1,7 +1,7 @@
 -- What each register shows of its meaning: it is short, its entries fit, and what stays beside it stays over many calls.
 use Rattle.std.specs.Prelude.{ℕ, ◌-◌, ◌^◌, ◌<◌, ◌≤◌, List, ◌++◌, length, get_or, take, refl}
 use Rattle.std.proofs.Common.{◌∙◌, ⊎_elim, arith, length-take}
-use Rattle.std.specs.Borrow.{Bor}
+use Rattle.std.specs.Borrow.{MutBor}
 use Rattle.std.proofs.lemmas.List.{get_or-take, get_or_past, get_or_append_left, get_or-append_right}
 use Rattle.std.proofs.lemmas.Bool.{cases_lt}
 use Rattle.register.specs.Plots.{most, cut, Fit, Short}
@@ -32,11 +32,11 @@ pub joined_fit : (xs ys : List ℕ) → Fit xs → Fit ys → Fit (cut (xs ++ ys
 joined_fit xs ys f g = cut_fit (xs ++ ys) (both_fit xs ys f g)
 
 -- a loan that is not used stays
-pub loan_still : (x : Bor (List ℕ)) → SameLoan x x
+pub loan_still : (x : MutBor (List ℕ)) → SameLoan x x
 loan_still x = record { place = refl; rest = refl }
 
 -- a loan that stays over one call and over the next stays over both
-pub loan_linked : (x y z : Bor (List ℕ)) → SameLoan x y → SameLoan y z → SameLoan x z
+pub loan_linked : (x y z : MutBor (List ℕ)) → SameLoan x y → SameLoan y z → SameLoan x z
 loan_linked x y z s t = record { place = t.place ∙ s.place; rest = t.rest ∙ s.rest }
 
 -- two grounds that are not called stay

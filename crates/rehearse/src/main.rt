@@ -1,5 +1,7 @@
 // Answers the requests of a file by a run of the book and the policy of the current folder, on the
 // plots of another file.
+#![tactic(auto)]
+
 mod asked;
 mod lines;
 mod reading;

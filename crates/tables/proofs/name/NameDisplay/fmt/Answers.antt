@@ -11,7 +11,7 @@ loop-letter-init g c = λ plain. record { wrote = writes_in_calls_nil g.W.Write.
 pub loop-letter-preserved : goal.loop-letter-preserved
 loop-letter-preserved g c = λ plain.
     let so_far = c.loop-letter.invariant plain in
-    let now-too = c.in-ok-write-char.ensures.writes so_far.plain refl in
+    let now-too = c.in_ok-write_char.ensures.writes so_far.plain refl in
     has_written_of_eq g.W.Write.write_str_gives _ _ _ _ (written_more c.trimmed-letter-items.result.now c.loop-letter.letter-index c.loop-letter-test.true) (has_written_append g.W.Write.write_str_gives _ _ _ _ _ so_far now-too)
 
 pub returns-clause-writes : goal.returns-clause-writes
