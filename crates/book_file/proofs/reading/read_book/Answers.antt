@@ -14,7 +14,7 @@ pub loop-rest-init : goal.loop-rest-init
 loop-rest-init c =
     let f = c.args.file.now in
     let is = c.empty.ensures.is in (
-      subst (λ (b : Bk). Turn book_format f f 0 b) (sym is) (first_turn book_format holds f c.byte-count.ensures.bytes (omega arith)),
+      subst (λ (b : Bk). Turn book_format f f 0 b) (sym is) (first_turn book_format holds f c.byte_count.ensures.bytes (omega arith)),
       c.empty.ensures.operations ∙ sym (ap (name_places book_format operation_name) is),
       c.empty.ensures.calls ∙ sym (ap (name_places book_format call_name) is),
     )
@@ -23,8 +23,8 @@ loop-rest-init c =
 step_shorter : (c : goal.In-Ok) → length c.in-Ok.after.now < length c.loop-rest.rest.now
 step_shorter c = shorter book_format holds c.loop-rest.rest.now (book_of c.loop-rest.book) (book_of c.step.new.book) c.in-Ok.after.now c.in-Ok.ensures.is
 
-pub overflow-sub-offset : goal.overflow-sub-offset
-overflow-sub-offset c = let s = step_shorter c in omega arith
+pub overflow_sub-offset : goal.overflow_sub-offset
+overflow_sub-offset c = let s = step_shorter c in omega arith
 
 pub loop-rest-smaller : goal.loop-rest-smaller
 loop-rest-smaller c = step_shorter c
@@ -45,12 +45,12 @@ loop-rest-preserved c =
       stepped.calls ∙ ap (λ (l : List ℕ). l ++ place_of (call_name (command_at rest)) at) c.loop-rest.invariant.2 ∙ sym (turn_places book_format holds f rest at b turn call_name a after stepped.is),
     )
 
-pub returns-then-byte-count-gt-LONGEST : goal.returns-then-byte-count-gt-LONGEST
-returns-then-byte-count-gt-LONGEST c =
+pub returns-then-byte_count-gt-LONGEST : goal.returns-then-byte_count-gt-LONGEST
+returns-then-byte_count-gt-LONGEST c =
     let f = c.args.file.now in
     let empty = c.empty.ensures in
-    let h : 32767 < length f = omega (arith, c.byte-count.ensures.count, c.if-byte-count-gt-LONGEST.true) in
-    let w = refused f c.byte-count.ensures.bytes c.empty.result 4 0 (long_file book_format holds f h) empty.is empty.operations empty.calls in
+    let h : 32767 < length f = omega (arith, c.byte_count.ensures.count, c.if-byte_count-gt-LONGEST.true) in
+    let w = refused f c.byte_count.ensures.bytes c.empty.result 4 0 (long_file book_format holds f h) empty.is empty.operations empty.calls in
     record { answer = w.answer; left = w.left; accepts = w.accepts; refuses = w.refuses; apart = w.apart; operations = w.operations; calls = w.calls; operation_names = w.operation_names; call_names = w.call_names }
 
 pub returns-in-Err : goal.returns-in-Err
@@ -62,7 +62,7 @@ returns-in-Err c =
     let h : 0 < length rest = search rules in
     let e = last_turn book_format holds f rest at (book_of c.loop-rest.book) c.loop-rest.invariant.0 n h c.in-Err.ensures.is in
     let empty = c.empty-in-Err.ensures in
-    let w = refused f c.byte-count.ensures.bytes c.empty-in-Err.result n at e empty.is empty.operations empty.calls in
+    let w = refused f c.byte_count.ensures.bytes c.empty-in-Err.result n at e empty.is empty.operations empty.calls in
     record { answer = w.answer; left = w.left; accepts = w.accepts; refuses = w.refuses; apart = w.apart; operations = w.operations; calls = w.calls; operation_names = w.operation_names; call_names = w.call_names }
 
 pub returns : goal.returns
@@ -71,5 +71,5 @@ returns c =
     let rest = c.loop-rest.rest.now in
     let h : length rest ≤ 0 = search rules in
     let e = end_turn book_format holds f rest c.loop-rest.offset (book_of c.loop-rest.book) c.loop-rest.invariant.0 h in
-    let w = accepted f c.byte-count.ensures.bytes c.loop-rest.book e c.loop-rest.invariant.1 c.loop-rest.invariant.2 in
+    let w = accepted f c.byte_count.ensures.bytes c.loop-rest.book e c.loop-rest.invariant.1 c.loop-rest.invariant.2 in
     record { answer = w.answer; left = w.left; accepts = w.accepts; refuses = w.refuses; apart = w.apart; operations = w.operations; calls = w.calls; operation_names = w.operation_names; call_names = w.call_names }

@@ -5,7 +5,7 @@ use Rattle.book.specs.declared.tables.Book.{Book}
 use Rattle.book.specs.declared.tables.Call.{Call as Row}
 use Rattle.listing.proofs.Listed.{some_at, added, all_added}
 use Rattle.listing.proofs.lines.add_calls.Goals as goal
-use Rattle.listing.proofs.lines.add_calls.Goals.{in-Some+in-ok-push, in-default}
+use Rattle.listing.proofs.lines.add_calls.Goals.{in-Some+in_ok-push, in_default}
 use Rattle.listing.specs.Lines.{call_line}
 use Rattle.listing.specs.declared.lines.Line.{Line}
 use Rattle.policy.specs.Meaning.{policy_of}
@@ -21,14 +21,14 @@ loop-number-preserved c =
     let there : option_map cl_of (option_map ((λ x. x.now) {X = Row}) c.call.result) ≡ slice_get xs i = c.call.ensures.is ∙ ap (λ (cs : List Cl). slice_get cs i) same in
     let items = vec_items c.loop-number.lines in
     elim c.match-call.branch [
-      | in-Some+in-ok-push w ↦
+      | in-Some+in_ok-push w ↦
           let call = cl_of w.in-Some.call.now in
           let at : slice_get xs i ≡ Some call = sym there ∙ ap (λ (o : Option (Bor Row)). option_map cl_of (option_map ((λ x. x.now) {X = Row}) o)) w.in-Some.is in
-          let line = ap vec_items w.lines-is ∙ w.in-ok-push.ensures.items ∙ ap (λ (l : Line). items ++ l ∷ []) w.call-line.ensures in
+          let line = ap vec_items w.lines-is ∙ w.in_ok-push.ensures.items ∙ ap (λ (l : Line). items ++ l ∷ []) w.call_line.ensures in
           added (call_line p c.args.marks.now) xs i _ items (vec_items c.match-call.lines) call at line c.loop-number.invariant
-      | in-default w ↦
-          let none : slice_get xs i ≡ None = sym there ∙ ap (λ (o : Option (Bor Row)). option_map cl_of (option_map ((λ x. x.now) {X = Row}) o)) w.in-default.is in
-          let x = some_at xs i (omega (arith, c.loop-number-test.true, c.call-count-number-end.ensures, ap length same)) in
+      | in_default w ↦
+          let none : slice_get xs i ≡ None = sym there ∙ ap (λ (o : Option (Bor Row)). option_map cl_of (option_map ((λ x. x.now) {X = Row}) o)) w.in_default.is in
+          let x = some_at xs i (omega (arith, c.loop-number-test.true, c.call_count-number-end.ensures, ap length same)) in
           absurd (let z : ◌≡◌ {A = ℕ} 0 1 = cc x.1 in omega arith)
     ]
 
@@ -37,4 +37,4 @@ returns c =
     let p = policy_of c.args.table.now in
     let xs = (book_of c.args.table.now.book).calls in
     let same = ap (λ (b : Book). length (book_of b).calls) c.book-book.ensures in
-    all_added (call_line p c.args.marks.now) xs c.loop-number.number _ (vec_items c.loop-number.lines) (omega (arith, c.loop-number-test.false, c.call-count-number-end.ensures)) c.loop-number.invariant
+    all_added (call_line p c.args.marks.now) xs c.loop-number.number _ (vec_items c.loop-number.lines) (omega (arith, c.loop-number-test.false, c.call_count-number-end.ensures)) c.loop-number.invariant

@@ -12,7 +12,7 @@ loop-number-preserved c =
     let i = c.loop-number.number in
     let long = items_long c.clauses-number-end.result.now xs c.clauses-number-end.ensures.is in
     let x = some_at xs i (omega (arith, c.loop-number-test.true)) in
-    let line = c.in-ok-push.ensures.items ∙ ap (λ (l : Line). vec_items c.loop-number.lines ++ l ∷ []) c.clause-line.ensures in
+    let line = c.in_ok-push.ensures.items ∙ ap (λ (l : Line). vec_items c.loop-number.lines ++ l ∷ []) c.clause_line.ensures in
     added (clause_line c.args.marks.now) xs i _ (vec_items c.loop-number.lines) (vec_items c.push.new.self) x.0 x.1 line c.loop-number.invariant
 
 pub returns : goal.returns

@@ -9,4 +9,4 @@ use Rattle.std.proofs.Common.{ap, ◌∙◌}
 pub returns : goal.returns
 returns c =
     let t = c.args.table.now in
-    thrice _ _ _ _ _ _ _ c.new-lines.ensures.items c.in-ok-add-cells.ensures c.in-ok-add-clauses.ensures c.in-ok-add-calls.ensures ∙ ap (lines_with (book_of t.book) (policy_of t)) c.mark-marks.ensures.is
+    thrice _ _ _ _ _ _ _ c.new-lines.ensures.items c.in_ok-add_cells.ensures c.in_ok-add_clauses.ensures c.in_ok-add_calls.ensures ∙ ap (lines_with (book_of t.book) (policy_of t)) c.mark-marks.ensures.is

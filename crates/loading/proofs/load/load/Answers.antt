@@ -10,14 +10,14 @@ use Rattle.loading.specs.Loading.{loaded, verdict_of, table_after}
 use Rattle.policy.specs.Meaning.{Tb}
 use Rattle.std.specs.Option.{option_map}
 
-pub returns-in-Err-read-policy : goal.returns-in-Err-read-policy
-returns-in-Err-read-policy c =
-    let bf = c.in-Some.book-file.now in
-    let pf = c.in-Some-policy.policy-file.now in
-    let b = book_of c.read-book.new.book in
-    let a = at_of c.in-Err-read-policy.refused in
-    let read = c.in-default-read-book.ensures in
-    let refused = c.in-Err-read-policy.ensures in
+pub returns-in-Err-read_policy : goal.returns-in-Err-read_policy
+returns-in-Err-read_policy c =
+    let bf = c.in-Some.book_file.now in
+    let pf = c.in-Some-policy.policy_file.now in
+    let b = book_of c.read_book.new.book in
+    let a = at_of c.in-Err-read_policy.refused in
+    let read = c.in_default-read_book.ensures in
+    let refused = c.in-Err-read_policy.ensures in
     let files : loaded (option_map ((λ x. x.now) {X = List ℕ}) c.args.book) (option_map ((λ x. x.now) {X = List ℕ}) c.args.policy) ≡ loaded (Some bf) (Some pf) = ap (λ (o : Option (Bor (List ℕ))). loaded (option_map ((λ x. x.now) {X = List ℕ}) o) (option_map ((λ x. x.now) {X = List ℕ}) c.args.policy)) c.in-Some.is ∙ ap (λ (o : Option (Bor (List ℕ))). loaded (Some bf) (option_map ((λ x. x.now) {X = List ℕ}) o)) c.in-Some-policy.is in
     let is = files ∙ load_refused bf pf b a read.answer read.left refused.answer in
     let empty = refused.left ∙ table_empty bf pf b a read.answer read.left refused.answer in
@@ -25,7 +25,7 @@ returns-in-Err-read-policy c =
     record {
       answer = sym (ap verdict_of is);
       left = empty ∙ sym (ap table_after is);
-      operations = refused.operations ∙ none (operation_places c.read-book.new.book) ∙ sym (ap (λ (t : Tb). name_places book_format operation_name t.book) empty);
-      calls = refused.calls ∙ none (call_places c.read-book.new.book) ∙ sym (ap (λ (t : Tb). name_places book_format call_name t.book) empty);
+      operations = refused.operations ∙ none (operation_places c.read_book.new.book) ∙ sym (ap (λ (t : Tb). name_places book_format operation_name t.book) empty);
+      calls = refused.calls ∙ none (call_places c.read_book.new.book) ∙ sym (ap (λ (t : Tb). name_places book_format call_name t.book) empty);
       labels = refused.labels;
     }

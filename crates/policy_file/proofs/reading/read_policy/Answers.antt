@@ -18,8 +18,8 @@ loop-rest-init c =
     let x = c.args.book.now in
     let F = policy_format (book_of x) in
     let is = c.new.ensures.is in
-    let h : length f ≤ 32767 = omega (arith, c.byte-count.ensures.count, c.if-byte-count-gt-LONGEST.false) in (
-      subst (λ (p : Po). Turn F f f 0 p) (sym is) (first_turn F (holds (book_of x) (short_book x)) f c.byte-count.ensures.bytes h),
+    let h : length f ≤ 32767 = omega (arith, c.byte_count.ensures.count, c.if-byte_count-gt-LONGEST.false) in (
+      subst (λ (p : Po). Turn F f f 0 p) (sym is) (first_turn F (holds (book_of x) (short_book x)) f c.byte_count.ensures.bytes h),
       c.new.ensures.places ∙ sym (ap (name_places F label_name) is),
       c.new.ensures.book,
     )
@@ -34,8 +34,8 @@ step_shorter c =
     let x = c.args.book.now in
     shorter (policy_format (book_of x)) (holds (book_of x) (short_book x)) c.loop-rest.rest.now (policy_of c.loop-rest.table) (policy_of c.step.new.table) c.in-Ok.after.now (step_is c)
 
-pub overflow-sub-offset : goal.overflow-sub-offset
-overflow-sub-offset c = let s = step_shorter c in omega arith
+pub overflow_sub-offset : goal.overflow_sub-offset
+overflow_sub-offset c = let s = step_shorter c in omega arith
 
 pub loop-rest-smaller : goal.loop-rest-smaller
 loop-rest-smaller c = step_shorter c
@@ -58,14 +58,14 @@ loop-rest-preserved c =
       c.in-Ok.ensures.book ∙ c.loop-rest.invariant.2,
     )
 
-pub returns-then-byte-count-gt-LONGEST : goal.returns-then-byte-count-gt-LONGEST
-returns-then-byte-count-gt-LONGEST c =
+pub returns-then-byte_count-gt-LONGEST : goal.returns-then-byte_count-gt-LONGEST
+returns-then-byte_count-gt-LONGEST c =
     let f = c.args.file.now in
     let x = c.args.book.now in
     let empty = c.empty.ensures in
-    let h : 32767 < length f = omega (arith, c.byte-count.ensures.count, c.if-byte-count-gt-LONGEST.true) in
+    let h : 32767 < length f = omega (arith, c.byte_count.ensures.count, c.if-byte_count-gt-LONGEST.true) in
     let e = long_file (policy_format (book_of x)) (holds (book_of x) (short_book x)) f h in
-    let w = refused x f c.byte-count.ensures.bytes c.empty.result 4 0 e empty.is empty.operations empty.calls empty.labels in
+    let w = refused x f c.byte_count.ensures.bytes c.empty.result 4 0 e empty.is empty.operations empty.calls empty.labels in
     record { answer = w.answer; left = w.left; accepts = w.accepts; refuses = w.refuses; apart = w.apart; operations = w.operations; calls = w.calls; labels = w.labels; label_names = w.label_names; flagged = w.flagged }
 
 pub returns-in-Err : goal.returns-in-Err
@@ -80,21 +80,21 @@ returns-in-Err c =
     let s : Err n ≡ step_of (policy_format (book_of x)) rest p = c.in-Err.ensures.is ∙ ap (λ (y : Book). step_of (policy_format (book_of y)) rest p) c.loop-rest.invariant.2 in
     let e = last_turn (policy_format (book_of x)) (holds (book_of x) (short_book x)) f rest at p c.loop-rest.invariant.0 n h s in
     let empty = c.empty-in-Err.ensures in
-    let w = refused x f c.byte-count.ensures.bytes c.empty-in-Err.result n at e empty.is empty.operations empty.calls empty.labels in
+    let w = refused x f c.byte_count.ensures.bytes c.empty-in-Err.result n at e empty.is empty.operations empty.calls empty.labels in
     record { answer = w.answer; left = w.left; accepts = w.accepts; refuses = w.refuses; apart = w.apart; operations = w.operations; calls = w.calls; labels = w.labels; label_names = w.label_names; flagged = w.flagged }
 
-pub returns-then-is-unfinished : goal.returns-then-is-unfinished
-returns-then-is-unfinished c =
+pub returns-then-is_unfinished : goal.returns-then-is_unfinished
+returns-then-is_unfinished c =
     let f = c.args.file.now in
     let x = c.args.book.now in
     let rest = c.loop-rest.rest.now in
     let at = c.loop-rest.offset in
     let p = policy_of c.loop-rest.table in
     let h : length rest ≤ 0 = search rules in
-    let u = sym c.is-unfinished.ensures ∙ c.if-is-unfinished.true in
+    let u = sym c.is_unfinished.ensures ∙ c.if-is_unfinished.true in
     let e = end_turn (policy_format (book_of x)) (holds (book_of x) (short_book x)) f rest at p c.loop-rest.invariant.0 h ∙ ap (λ (b : Bool). cond {A = Result Po At} b (Err (refused_at 9 at)) (Ok p)) u in
-    let empty = c.empty-then-is-unfinished.ensures in
-    let w = refused x f c.byte-count.ensures.bytes c.empty-then-is-unfinished.result 9 at e empty.is empty.operations empty.calls empty.labels in
+    let empty = c.empty-then-is_unfinished.ensures in
+    let w = refused x f c.byte_count.ensures.bytes c.empty-then-is_unfinished.result 9 at e empty.is empty.operations empty.calls empty.labels in
     record { answer = w.answer; left = w.left; accepts = w.accepts; refuses = w.refuses; apart = w.apart; operations = w.operations; calls = w.calls; labels = w.labels; label_names = w.label_names; flagged = w.flagged }
 
 pub returns : goal.returns
@@ -105,7 +105,7 @@ returns c =
     let at = c.loop-rest.offset in
     let p = policy_of c.loop-rest.table in
     let h : length rest ≤ 0 = search rules in
-    let u = sym c.is-unfinished.ensures ∙ c.if-is-unfinished.false in
+    let u = sym c.is_unfinished.ensures ∙ c.if-is_unfinished.false in
     let e = end_turn (policy_format (book_of x)) (holds (book_of x) (short_book x)) f rest at p c.loop-rest.invariant.0 h ∙ ap (λ (b : Bool). cond {A = Result Po At} b (Err (refused_at 9 at)) (Ok p)) u in
-    let w = accepted x f c.byte-count.ensures.bytes c.loop-rest.table e c.loop-rest.invariant.2 c.loop-rest.invariant.1 in
+    let w = accepted x f c.byte_count.ensures.bytes c.loop-rest.table e c.loop-rest.invariant.2 c.loop-rest.invariant.1 in
     record { answer = w.answer; left = w.left; accepts = w.accepts; refuses = w.refuses; apart = w.apart; operations = w.operations; calls = w.calls; labels = w.labels; label_names = w.label_names; flagged = w.flagged }

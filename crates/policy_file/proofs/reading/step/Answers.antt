@@ -10,14 +10,14 @@ use Rattle.policy_file.specs.Law.{label_name}
 use Rattle.policy_file.specs.declared.commands.Command.{Command}
 use Rattle.std.proofs.Common.{◌++◌, drop, ap, ◌∙◌, rules}
 
-pub returns-in-err-command : goal.returns-in-err-command
-returns-in-err-command c =
+pub returns-in_err-command : goal.returns-in_err-command
+returns-in_err-command c =
     let t = c.args.table.now in
     let e = step_is (book_of t.book) c.args.rest.now (policy_of t) in
     record { is = search rules; book = search rules; places = search rules }
 
-pub returns-in-err-obey : goal.returns-in-err-obey
-returns-in-err-obey c =
+pub returns-in_err-obey : goal.returns-in_err-obey
+returns-in_err-obey c =
     let t = c.args.table.now in
     let e = step_is (book_of t.book) c.args.rest.now (policy_of t) in
     record { is = search rules; book = search rules; places = search rules }
@@ -27,9 +27,9 @@ returns c =
     let t = c.args.table.now in
     let e = step_is (book_of t.book) c.args.rest.now (policy_of t) in
     let xs = c.args.rest.now in
-    let d = command_is c.in-ok-command.command (command_at xs) c.in-ok-command.after.now (drop (size_at xs) xs) (unknown xs xs) (cut_off xs xs) c.in-ok-command.ensures in
+    let d = command_is c.in_ok-command.command (command_at xs) c.in_ok-command.after.now (drop (size_at xs) xs) (unknown xs xs) (cut_off xs xs) c.in_ok-command.ensures in
     record {
       is = search rules;
       book = search rules;
-      places = c.in-ok-obey.ensures.places ∙ ap (λ (x : Command). label_places t ++ place_of (label_name x) c.args.offset) d;
+      places = c.in_ok-obey.ensures.places ∙ ap (λ (x : Command). label_places t ++ place_of (label_name x) c.args.offset) d;
     }

@@ -30,7 +30,7 @@ pub returns : goal.returns
 returns c =
     let p = policy_of c.args.table.now in
     let m = c.loop-number.marks in
-    let e = sym (leads_off p (down m.clauses) m (sym c.next.ensures ∙ c.in-default.is)) ∙ c.loop-number.invariant.1 in
+    let e = sym (leads_off p (down m.clauses) m (sym c.next.ensures ∙ c.in_default.is)) ∙ c.loop-number.invariant.1 in
     let r = subst (Right p) (sym e) (right p (few_clauses c.args.table.now) (few_cells c.args.table.now)) in
     record {
       is = e;

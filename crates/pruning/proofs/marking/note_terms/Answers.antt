@@ -19,8 +19,8 @@ loop-when-preserved c =
     let d : When = record { comparison = Equal; left = Number 0; right = Number 0 } in
     let step = when_noted n ws i d (action_terms c.args.clause.now.action) c.loop-when.cells c.loop-when-test.true in
     let rows = c.whens-when-items.ensures in
-    ap (λ (vs : List When). T vs (i + 1) c.note-when.new.cells) (sym rows)
-    ∙ ap (T ws (i + 1)) c.note-when.ensures
+    ap (λ (vs : List When). T vs (i + 1) c.note_when.new.cells) (sym rows)
+    ∙ ap (T ws (i + 1)) c.note_when.ensures
     ∙ sym step
     ∙ ap (λ (vs : List When). T vs i c.loop-when.cells) rows
     ∙ c.loop-when.invariant
@@ -32,7 +32,7 @@ returns c =
     let a = c.args.clause.now.action in
     let rows = c.whens-when-items.ensures in
     let past = ap length rows in
-    c.note-action.ensures
+    c.note_action.ensures
     ∙ ap (λ (x : Option Action). noted_all n (action_terms x) c.loop-when.cells) c.action.ensures
     ∙ sym (at_drop_all (λ (vs : List When). noted_all n (flat_map when_terms vs ++ action_terms a) c.loop-when.cells) _ i (omega (arith, past, c.loop-when-test.false)))
     ∙ c.loop-when.invariant

@@ -2,7 +2,7 @@ use Rattle.std.proofs.Common.{ℕ, ◌+◌, count_by, sym, ap, ◌∙◌, subst}
 use Rattle.policy.specs.Meaning.{policy_of}
 use Rattle.pruning.proofs.Counting.{Counted, count_yes, count_no, count_all}
 use Rattle.pruning.proofs.reasons.kept_befores.Goals as goal
-use Rattle.pruning.proofs.reasons.kept_befores.Goals.{then-is-marked, else-is-marked}
+use Rattle.pruning.proofs.reasons.kept_befores.Goals.{then-is_marked, else-is_marked}
 use Rattle.pruning.specs.Reasons.{operation_marked}
 
 pub loop-operation-preserved : goal.loop-operation-preserved
@@ -11,9 +11,9 @@ loop-operation-preserved c =
     let xs = c.befores-operation-items.result.now in
     let i = c.loop-operation.operation-index in
     let d : ℕ = 0 in
-    elim c.if-is-marked.branch [
-      | then-is-marked w ↦ subst (Counted test xs (i + 1)) (sym w.count-is) (count_yes test xs i c.loop-operation.count d c.loop-operation-test.true c.loop-operation.invariant (sym c.is-marked.ensures ∙ w.if-is-marked.true))
-      | else-is-marked w ↦ subst (Counted test xs (i + 1)) (sym w.count-is) (count_no test xs i c.loop-operation.count d c.loop-operation-test.true c.loop-operation.invariant (sym c.is-marked.ensures ∙ w.if-is-marked.false))
+    elim c.if-is_marked.branch [
+      | then-is_marked w ↦ subst (Counted test xs (i + 1)) (sym w.count-is) (count_yes test xs i c.loop-operation.count d c.loop-operation-test.true c.loop-operation.invariant (sym c.is_marked.ensures ∙ w.if-is_marked.true))
+      | else-is_marked w ↦ subst (Counted test xs (i + 1)) (sym w.count-is) (count_no test xs i c.loop-operation.count d c.loop-operation-test.true c.loop-operation.invariant (sym c.is_marked.ensures ∙ w.if-is_marked.false))
     ]
 
 pub returns : goal.returns

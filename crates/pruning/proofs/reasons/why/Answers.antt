@@ -12,8 +12,8 @@ returns-then-number-clauses c =
     let cs = (policy_of c.args.table.now).clauses in
     let m = c.args.marks.now in
     let at = item_at c.clauses-clauses.result.now cs c.clauses-clauses.ensures.is c.args.number c.index-clauses-number.result c.if-number-clauses.true c.index-clauses-number.is in
-    let e = c.reason-for.ensures ∙ ap (λ (o : Option Cs). or_else None (λ x. reason_of x.action m.cells) o) (sym at) in
-    record { is = e; own = why_promised c.args.table.now m c.args.number c.reason-for.result e }
+    let e = c.reason_for.ensures ∙ ap (λ (o : Option Cs). or_else None (λ x. reason_of x.action m.cells) o) (sym at) in
+    record { is = e; own = why_promised c.args.table.now m c.args.number c.reason_for.result e }
 
 pub returns-else-number-clauses : goal.returns-else-number-clauses
 returns-else-number-clauses c =

@@ -11,11 +11,11 @@ loop-line-preserved g c =
     let s = state_of g.R.Register.meaning c.loop-line.run in
     let h = c.loop-line-test.true in
     let d = c.line-item.result in
-    let e = c.answer-one.ensures.is ∙ ap (λ l. asked_of s l.asked) c.line-item.is in
+    let e = c.answer_one.ensures.is ∙ ap (λ l. asked_of s l.asked) c.line-item.is in
     let inv = c.loop-line.invariant in (
-      answers_turn ls i d s _ h e _ _ _ c.push-reserved.ensures.items inv.0,
+      answers_turn ls i d s _ h e _ _ _ c.push_reserved.ensures.items inv.0,
       after_turn ls i d s _ h e _ inv.1,
-      g.R.Register.linked _ _ _ inv.2 c.answer-one.ensures.beside,
+      g.R.Register.linked _ _ _ inv.2 c.answer_one.ensures.beside,
       omega arith,
       omega arith,
     )

@@ -4,14 +4,14 @@ use Rattle.policy.specs.Meaning.{cs_of, policy_of}
 use Rattle.policy.specs.declared.tables.Action.{Action}
 use Rattle.run.proofs.Stepping.{step_ends, step_skips, step_violates, step_acts}
 use Rattle.run.proofs.steps.step.Goals as goal
-use Rattle.run.proofs.steps.step.Goals.{then-acts+else-is-violation, else-acts}
+use Rattle.run.proofs.steps.step.Goals.{then-acts+else-is_violation, else-acts}
 use Rattle.run.specs.Cells.{cells_of}
 use Rattle.run.specs.Given.{given_of}
 use Rattle.run.specs.Steps.{Stepped, acted, violates, step_from}
 use Rattle.run.specs.declared.cells.Cells.{Cells}
 
-pub returns-then-is-violation : goal.returns-then-is-violation
-returns-then-is-violation c =
+pub returns-then-is_violation : goal.returns-then-is_violation
+returns-then-is_violation c =
     let xs = c.clauses-clause-items.result.now in
     let cs = (policy_of c.args.table.now).clauses in
     let same = c.clauses-clause-items.ensures.is in
@@ -19,7 +19,7 @@ returns-then-is-violation c =
     let x = c.clause-item.result in
     let inside = item_within xs cs same i x c.loop-number-test.true c.clause-item.is in
     let is = item_is xs cs same i x c.loop-number-test.true c.clause-item.is in
-    let bad = ap violates (sym c.action-action.ensures) ∙ sym c.if-is-violation.ensures in
+    let bad = ap violates (sym c.action-action.ensures) ∙ sym c.if-is_violation.ensures in
     sym (step_violates c.args.operation (given_of c.args.given.now) cs i (cells_of c.loop-number.cells) (cs_of x) inside is (sym c.if-acts.ensures) bad) ∙ c.loop-number.invariant
 
 pub loop-number-preserved : goal.loop-number-preserved
@@ -37,8 +37,8 @@ loop-number-preserved c =
     let from : Cells → Stepped = λ y. step_from o g (i + 1) (drop (i + 1) cs) (cells_of y) in
     let on : List ℕ → Stepped = λ y. step_from o g (i + 1) (drop (i + 1) cs) y in
     elim c.if-acts.branch [
-      | then-acts+else-is-violation w ↦
-          let good = ap violates (sym w.action-action.ensures) ∙ sym w.if-is-violation.ensures in
+      | then-acts+else-is_violation w ↦
+          let good = ap violates (sym w.action-action.ensures) ∙ sym w.if-is_violation.ensures in
           ap from w.cells-is ∙ ap on (w.act.ensures ∙ ap (acted g cells) w.action-action.ensures) ∙ sym (step_acts o g cs i cells (cs_of x) inside is (sym w.if-acts.ensures) good) ∙ c.loop-number.invariant
       | else-acts w ↦ ap from w.cells-is ∙ sym (step_skips o g cs i cells (cs_of x) inside is (sym w.if-acts.ensures)) ∙ c.loop-number.invariant
     ]

@@ -10,24 +10,24 @@ returns-in-Some c =
     let b = c.args.self.now in
     let r = b.calls in
     let o = c.in-Some.call.now in
-    let w = c.push-before.new.self in
-    let t = c.last-mut.follows.lender w in
+    let w = c.push_before.new.self in
+    let t = c.last_mut.follows.lender w in
     let e = c.in-Some.ensures.value in
-    let l = c.last-mut.follows.holds w in
+    let l = c.last_mut.follows.holds w in
     let m = meant_last cl_of r o e in
     record {
-      is = simp m (row_taken cl_of r (calls_are (book_of b)) t (full 8 (cl_of o).befores) (preceded c.args.number) o w e l c.push-before.ensures.is);
-      calls = row_kept cl_place r (λ l. l) t o w e l c.push-before.ensures.place;
+      is = simp m (row_taken cl_of r (calls_are (book_of b)) t (full 8 (cl_of o).befores) (preceded c.args.number) o w e l c.push_before.ensures.is);
+      calls = row_kept cl_place r (λ l. l) t o w e l c.push_before.ensures.place;
       operations = refl;
     }
 
-pub returns-in-default : goal.returns-in-default
-returns-in-default c =
+pub returns-in_default : goal.returns-in_default
+returns-in_default c =
     let b = c.args.self.now in
     let r = b.calls in
-    let t = c.last-mut.follows.lender-at-none in
-    let same = c.last-mut.follows.holds-at-none in
-    let n = meant_none cl_of r c.in-default.ensures.value in
+    let t = c.last_mut.follows.lender-at-none in
+    let same = c.last_mut.follows.holds-at-none in
+    let n = meant_none cl_of r c.in_default.ensures.value in
     record {
       is = row_same cl_of r (calls_are (book_of b)) t same ∙ simp n;
       calls = row_same cl_place r (λ l. l) t same;

@@ -3,10 +3,10 @@ use Rattle.policy.proofs.tables.Table.+walk.Goals as goal
 use Rattle.policy.specs.Meaning.{gr_of, policy_of}
 use Rattle.std.proofs.Common.{sym, ◌∙◌, arith}
 
-pub returns-in-default : goal.returns-in-default
-returns-in-default t c = record {
+pub returns-in_default : goal.returns-in_default
+returns-in_default t c = record {
   complete = c.requires;
-  grown = none_grown _ _ _ c.in-default.ensures;
+  grown = none_grown _ _ _ c.in_default.ensures;
 }
 
 pub bounds-walked-number : goal.bounds-walked-number

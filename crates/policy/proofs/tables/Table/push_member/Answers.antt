@@ -11,24 +11,24 @@ returns-in-Some c =
     let b = c.args.self.now in
     let r = b.groups in
     let o = c.in-Some.group.now in
-    let w = c.push-member.new.self in
-    let t = c.last-mut.follows.lender w in
+    let w = c.push_member.new.self in
+    let t = c.last_mut.follows.lender w in
     let e = c.in-Some.ensures.value in
-    let l = c.last-mut.follows.holds w in
+    let l = c.last_mut.follows.holds w in
     let m = meant_last gr_of r o e in
     record {
-      is = simp m (row_taken gr_of r (groups_are (policy_of b)) t (full 16 (gr_of o).members) (joining c.args.member) o w e l c.push-member.ensures);
+      is = simp m (row_taken gr_of r (groups_are (policy_of b)) t (full 16 (gr_of o).members) (joining c.args.member) o w e l c.push_member.ensures);
       book = refl;
       places = refl;
     }
 
-pub returns-in-default : goal.returns-in-default
-returns-in-default c =
+pub returns-in_default : goal.returns-in_default
+returns-in_default c =
     let b = c.args.self.now in
     let r = b.groups in
-    let t = c.last-mut.follows.lender-at-none in
-    let same = c.last-mut.follows.holds-at-none in
-    let n = meant_none gr_of r c.in-default.ensures.value in
+    let t = c.last_mut.follows.lender-at-none in
+    let same = c.last_mut.follows.holds-at-none in
+    let n = meant_none gr_of r c.in_default.ensures.value in
     record {
       is = row_same gr_of r (groups_are (policy_of b)) t same ∙ simp n;
       book = refl;

@@ -11,24 +11,24 @@ returns-in-Some c =
     let b = c.args.self.now in
     let r = b.clauses in
     let o = c.in-Some.clause.now in
-    let w = c.push-when.new.self in
-    let t = c.last-mut.follows.lender w in
+    let w = c.push_when.new.self in
+    let t = c.last_mut.follows.lender w in
     let e = c.in-Some.ensures.value in
-    let l = c.last-mut.follows.holds w in
+    let l = c.last_mut.follows.holds w in
     let m = meant_last cs_of r o e in
     record {
-      is = simp m (row_taken cs_of r (clauses_are (policy_of b)) t (full 3 (cs_of o).whens) (guarded (Some c.args.when)) o w e l c.push-when.ensures.is);
+      is = simp m (row_taken cs_of r (clauses_are (policy_of b)) t (full 3 (cs_of o).whens) (guarded (Some c.args.when)) o w e l c.push_when.ensures.is);
       book = refl;
-      places = row_kept cs_place r (λ l. l) t o w e l c.push-when.ensures.place;
+      places = row_kept cs_place r (λ l. l) t o w e l c.push_when.ensures.place;
     }
 
-pub returns-in-default : goal.returns-in-default
-returns-in-default c =
+pub returns-in_default : goal.returns-in_default
+returns-in_default c =
     let b = c.args.self.now in
     let r = b.clauses in
-    let t = c.last-mut.follows.lender-at-none in
-    let same = c.last-mut.follows.holds-at-none in
-    let n = meant_none cs_of r c.in-default.ensures.value in
+    let t = c.last_mut.follows.lender-at-none in
+    let same = c.last_mut.follows.holds-at-none in
+    let n = meant_none cs_of r c.in_default.ensures.value in
     record {
       is = row_same cs_of r (clauses_are (policy_of b)) t same ∙ simp n;
       book = refl;

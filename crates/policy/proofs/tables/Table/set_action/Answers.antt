@@ -10,23 +10,23 @@ returns-in-Some c =
     let b = c.args.self.now in
     let r = b.clauses in
     let o = c.in-Some.clause.now in
-    let w = c.set-action.new.self in
-    let t = c.last-mut.follows.lender w in
+    let w = c.set_action.new.self in
+    let t = c.last_mut.follows.lender w in
     let e = c.in-Some.ensures.value in
-    let l = c.last-mut.follows.holds w in
+    let l = c.last_mut.follows.holds w in
     record {
-      is = row_changed cs_of r (clauses_are (policy_of b)) t (acting (Some c.args.action)) o w e l c.set-action.ensures.is;
+      is = row_changed cs_of r (clauses_are (policy_of b)) t (acting (Some c.args.action)) o w e l c.set_action.ensures.is;
       book = refl;
-      places = row_kept cs_place r (λ l. l) t o w e l c.set-action.ensures.place;
+      places = row_kept cs_place r (λ l. l) t o w e l c.set_action.ensures.place;
     }
 
-pub returns-in-default : goal.returns-in-default
-returns-in-default c =
+pub returns-in_default : goal.returns-in_default
+returns-in_default c =
     let b = c.args.self.now in
     let r = b.clauses in
-    let t = c.last-mut.follows.lender-at-none in
-    let same = c.last-mut.follows.holds-at-none in
-    let n = meant_none cs_of r c.in-default.ensures.value in
+    let t = c.last_mut.follows.lender-at-none in
+    let same = c.last_mut.follows.holds-at-none in
+    let n = meant_none cs_of r c.in_default.ensures.value in
     record {
       is = row_same cs_of r (clauses_are (policy_of b)) t same ∙ simp n;
       book = refl;

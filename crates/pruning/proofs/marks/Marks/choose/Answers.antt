@@ -8,7 +8,7 @@ pub returns-then-number-clauses : goal.returns-then-number-clauses
 returns-then-number-clauses c =
     let p = policy_of c.args.table.now in
     let at = item_at c.clauses-clauses.result.now p.clauses c.clauses-clauses.ensures.is c.args.number c.index-clauses-number.result c.if-number-clauses.true c.index-clauses-number.is in
-    marked_there p c.args.number c.args.self.now (cs_of c.index-clauses-number.result) _ _ _ at (ap length c.cells.ensures) c.raise.ensures c.note-terms.ensures
+    marked_there p c.args.number c.args.self.now (cs_of c.index-clauses-number.result) _ _ _ at (ap length c.cells.ensures) c.raise.ensures c.note_terms.ensures
 
 pub returns-else-number-clauses : goal.returns-else-number-clauses
 returns-else-number-clauses c =

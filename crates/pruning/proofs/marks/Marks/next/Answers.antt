@@ -5,8 +5,8 @@ use Rattle.pruning.proofs.marks.Marks.next.Goals as goal
 use Rattle.pruning.specs.Marking.{due}
 use Rattle.std.proofs.Common.{sym, ◌∙◌, arith}
 
-pub returns-then-is-due : goal.returns-then-is-due
-returns-then-is-due c =
+pub returns-then-is_due : goal.returns-then-is_due
+returns-then-is_due c =
     let xs = c.clauses-clause-items.result.now in
     let cs = (policy_of c.args.table.now).clauses in
     let same = c.clauses-clause-items.ensures.is in
@@ -14,7 +14,7 @@ returns-then-is-due c =
     let x = c.clause-item.result in
     let inside = item_within xs cs same i x c.loop-number-test.true c.clause-item.is in
     let is = item_is xs cs same i x c.loop-number-test.true c.clause-item.is in
-    sym (c.loop-number.invariant ∙ first_stops (λ j k. due j k c.args.self.now) cs i (cs_of x) inside is (sym c.is-due.ensures ∙ c.if-is-due.true))
+    sym (c.loop-number.invariant ∙ first_stops (λ j k. due j k c.args.self.now) cs i (cs_of x) inside is (sym c.is_due.ensures ∙ c.if-is_due.true))
 
 pub loop-number-preserved : goal.loop-number-preserved
 loop-number-preserved c =
@@ -25,7 +25,7 @@ loop-number-preserved c =
     let x = c.clause-item.result in
     let inside = item_within xs cs same i x c.loop-number-test.true c.clause-item.is in
     let is = item_is xs cs same i x c.loop-number-test.true c.clause-item.is in
-    c.loop-number.invariant ∙ first_passes (λ j k. due j k c.args.self.now) cs i (cs_of x) inside is (sym c.is-due.ensures ∙ c.if-is-due.false)
+    c.loop-number.invariant ∙ first_passes (λ j k. due j k c.args.self.now) cs i (cs_of x) inside is (sym c.is_due.ensures ∙ c.if-is_due.false)
 
 pub returns : goal.returns
 returns c =

@@ -4,4 +4,4 @@ use Rattle.std.proofs.lemmas.List.{take_at}
 use Rattle.std.proofs.Common.{◌≡◌, length, ap, ◌∙◌}
 
 pub returns : goal.returns
-returns c = take_at _ _ (length c.cells-firsts.result.now) (ap length c.copy-from-slice.ensures.after) ∙ c.copy-from-slice.ensures.after ∙ c.cells-firsts.ensures
+returns c = take_at _ _ (length c.cells-firsts.result.now) (ap length c.copy_from_slice.ensures.after) ∙ c.copy_from_slice.ensures.after ∙ c.cells-firsts.ensures

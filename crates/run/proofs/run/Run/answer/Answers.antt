@@ -8,11 +8,11 @@ use Rattle.std.proofs.Common.{sym, subst}
 pub returns : goal.returns
 returns g c =
     let s = state_of g.R.Register.meaning c.args.self.now in
-    let is = c.answer-in-mode.ensures.is in
+    let is = c.answer_in_mode.ensures.is in
     record {
       is = is;
       leaves = subst (Leaves s) (sym is) (leaves s c.args.request);
       stopped = subst (Final s c.args.request) (sym is) (final s c.args.request);
-      table = c.answer-in-mode.ensures.table;
-      beside = c.answer-in-mode.ensures.beside;
+      table = c.answer_in_mode.ensures.table;
+      beside = c.answer_in_mode.ensures.beside;
     }

@@ -11,12 +11,12 @@ use Rattle.std.proofs.Common.{sym, subst}
 pub returns : goal.returns
 returns g c =
     let s = state_of g.R.Register.meaning c.args.self.now in
-    let is = c.answer-in-mode.ensures.is in
+    let is = c.answer_in_mode.ensures.is in
     record {
       is = is;
       leaves = subst (Leaves s) (sym is) (leaves s (Call c.args.number c.args.values));
       reported = subst (λ (e : Ended). Reported s c.args.number c.args.values.now e.answer) (sym is) (reported s c.args.number c.args.values.now);
       marks = by_marks s c.args.number c.args.values.now;
-      table = c.answer-in-mode.ensures.table;
-      beside = c.answer-in-mode.ensures.beside;
+      table = c.answer_in_mode.ensures.table;
+      beside = c.answer_in_mode.ensures.beside;
     }
