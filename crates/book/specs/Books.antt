@@ -1,9 +1,9 @@
 -- A book as lists, its changes, and what is asked of it.
 use Rattle.std.specs.Prelude.{ℕ, Bool, true, false, not, ◌&&◌, ◌||◌, List, [], ◌∷◌, ◌++◌, is_some, Some, None, Option, ◌==◌}
-use Rattle.book.specs.declared.tables.Act.{Act}
-use Rattle.book.specs.declared.tables.Act.TheVariants.{Look, Put}
-use Rattle.book.specs.declared.tables.After.{After}
-use Rattle.book.specs.declared.tables.Condition.{Condition}
+use Rattle.book.specs.declared.table.Act.{Act}
+use Rattle.book.specs.declared.table.Act.TheVariants.{Look, Put}
+use Rattle.book.specs.declared.table.After.{After}
+use Rattle.book.specs.declared.table.Condition.{Condition}
 use Rattle.std.specs.List.{slice_get}
 use Rattle.tables.specs.Lists.{in_last, roomy}
 use Rattle.tables.specs.Search.{first_named}

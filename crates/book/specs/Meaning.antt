@@ -1,9 +1,9 @@
 -- What the tables in memory stand for.
 use Rattle.std.specs.Prelude.{ℕ, List, map}
 use Rattle.book.specs.Books.{Op, Cl, Bk}
-use Rattle.book.specs.declared.tables.Book.{Book}
-use Rattle.book.specs.declared.tables.Call.{Call}
-use Rattle.book.specs.declared.tables.Operation.{Operation}
+use Rattle.book.specs.declared.table.Book.{Book}
+use Rattle.book.specs.declared.table.Call.{Call}
+use Rattle.book.specs.declared.table.Operation.{Operation}
 use Rattle.tables.specs.Rows.{rows_of}
 
 -- an operation

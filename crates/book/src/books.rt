@@ -6,7 +6,7 @@ ghost use Rattle.std.specs.Option.{option_map};
 ghost use Rattle.std.specs.List.{slice_get};
 ghost use Rattle.tables.specs.Lists.{last_of};
 
-use crate::tables::{Book, Call, Operation};
+use crate::table::{Book, Call, Operation};
 use tables::name::Name;
 use tables::rows::Rows;
 

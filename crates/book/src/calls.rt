@@ -3,7 +3,7 @@ ghost use Rattle.book.specs.Books.{new_cl, act_needs};
 ghost use Rattle.book.specs.Meaning.{cl_of, cl_place};
 ghost use Rattle.std.specs.Prelude.{◌≡◌};
 
-use crate::tables::{Act, After, Call, Condition};
+use crate::table::{Act, After, Call, Condition};
 use tables::lookup::Named;
 use tables::name::Name;
 use tables::rows::Rows;

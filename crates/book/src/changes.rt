@@ -6,7 +6,7 @@ ghost use Rattle.std.specs.Prelude.{◌≡◌, false, [], ◌∷◌, ◌++◌, m
 ghost use Rattle.tables.specs.Lists.{last_of};
 ghost use Rattle.tables.specs.Search.{first_named};
 
-use crate::tables::{Act, After, Book, Call, Condition, Operation};
+use crate::table::{Act, After, Book, Call, Condition, Operation};
 use tables::lookup::find;
 use tables::name::Name;
 

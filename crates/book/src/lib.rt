@@ -6,4 +6,4 @@ pub mod calls;
 pub mod changes;
 pub mod marks;
 pub mod operations;
-pub mod tables;
+pub mod table;

@@ -3,7 +3,7 @@ ghost use Rattle.book.specs.Books.{new_op};
 ghost use Rattle.book.specs.Meaning.{op_of, op_place};
 ghost use Rattle.std.specs.Prelude.{◌≡◌};
 
-use crate::tables::Operation;
+use crate::table::Operation;
 use tables::lookup::Named;
 use tables::name::Name;
 use tables::rows::Rows;

@@ -1,14 +1,14 @@
 -- A book that ends in a known operation or call, and what the tests see at its end.
 use Rattle.std.proofs.Common.{◌≡◌, ℕ, Bool, true, false, not, ◌||◌, eqb, List, [], ◌∷◌, ◌++◌, Some, Option, refl, ap, ◌∙◌}
 use Rattle.book.specs.Books.{Op, Cl, Bk, or_else, marks_at, marked, fielded, preceded, acting, followed, in_last_cl, filled, full, has, has_all, act_needs}
-use Rattle.book.specs.declared.tables.Act.{Act}
-use Rattle.book.specs.declared.tables.After.{After}
+use Rattle.book.specs.declared.table.Act.{Act}
+use Rattle.book.specs.declared.table.After.{After}
 use Rattle.book_file.specs.Changes.{obey}
 use Rattle.book_file.specs.Operands.{act_of, condition_of}
 use Rattle.book_file.specs.Tests.{misplaced, crowded, outside, undefined, taken, lacking, command_tests, acted, begun, answered}
 use Rattle.book_file.specs.declared.commands.Command.TheVariants.{Field, Before, Act as ACT, After as AFTER}
 use Rattle.book_file.specs.declared.commands.Command.{Command}
-use Rattle.std.specs.List.{AllByRecursion as All}
+use Rattle.std.specs.List.{AllByRecursion}
 use Rattle.tables.specs.Lists.{last_of, in_last}
 use Rattle.tables.specs.declared.name.Name.{Name}
 
@@ -20,7 +20,7 @@ call n fs bs a ss = record { name = n; fields = fs; befores = bs; act = a; after
 
 -- no test speaks against the command
 abbrev pub Clear : Bk → Command → Type 0
-Clear b c = All (λ (t : Bk → Command → Bool). t b c ≡ false) command_tests
+Clear b c = AllByRecursion (λ (t : Bk → Command → Bool). t b c ≡ false) command_tests
 
 -- the same test by test
 pub record Fits (b : Bk) (c : Command) : Type 0 where

@@ -1,9 +1,9 @@
 -- A command that no test speaks against makes a lawful book of a lawful book, which is written as before with the command at the end.
 use Rattle.std.proofs.Common.{◌≡◌, ℕ, false, eqb, List, [], ◌∷◌, ◌++◌, map, is_some, Some, None, Option, sym, refl, ap, ◌∙◌, subst, arith}
 use Rattle.book.specs.Books.{Op, Cl, Bk, new_op, new_cl, op_name, cl_name, or_else, marked, fielded, preceded, acting, followed, after_of, filled, full, named, act_needs}
-use Rattle.book.specs.declared.tables.Act.{Act}
-use Rattle.book.specs.declared.tables.After.{After}
-use Rattle.book.specs.declared.tables.Condition.{Condition}
+use Rattle.book.specs.declared.table.Act.{Act}
+use Rattle.book.specs.declared.table.After.{After}
+use Rattle.book.specs.declared.table.Condition.{Condition}
 use Rattle.book_file.proofs.Bytes.{Sized}
 use Rattle.book_file.proofs.Ends.{book, call, Fits, view, mark_crowded, mark_taken, mark_obey, field_misplaced, field_crowded, field_outside, field_taken, field_obey, before_misplaced, before_crowded, before_lacking, before_obey, act_misplaced, act_lacking, act_obey, after_misplaced, after_crowded, after_lacking, after_obey}
 use Rattle.book_file.proofs.Parts.{all_mid, all_swap, apart_push, full_less, named_out, name_is, marks_push, has_all_true, met_there, act_is, condition_is}
@@ -16,7 +16,7 @@ use Rattle.book_file.specs.declared.commands.Command.{Command}
 use Rattle.std.proofs.ByRecursion.{All-push}
 use Rattle.std.proofs.lemmas.List.{length_push, flat_map_more, append-nil, append_assoc, map_push}
 use Rattle.std.proofs.lemmas.Bool.{or_parts, false≢true}
-use Rattle.std.specs.List.{ContainsAt as Has, flat_map, AllByRecursion as All}
+use Rattle.std.specs.List.{ContainsAt as Has, flat_map, AllByRecursion}
 use Rattle.tables.specs.declared.name.Name.{Name}
 use borrow.Author.Tests.{eqb-false}
 
@@ -113,7 +113,7 @@ act_cl os cs n fs bs None [] a s h l =
     let c = call n fs bs None [] in
     let v = act_is a h.inside in
     let x = v.0 in
-    let met : All (Has fs) (act_needs x) = subst (λ (o : Option Act). All (Has fs) (or_else [] act_needs o)) v.1 (has_all_true fs (or_else [] act_needs (act_of a)) (sym (act_lacking os cs c a) ∙ h.met)) in
+    let met : AllByRecursion (Has fs) (act_needs x) = subst (λ (o : Option Act). AllByRecursion (Has fs) (or_else [] act_needs o)) v.1 (has_all_true fs (or_else [] act_needs (act_of a)) (sym (act_lacking os cs c a) ∙ h.met)) in
     subst (Kept (book os (cs ++ c ∷ [])) (ACT a)) (sym (act_obey os cs c a ∙ ap (λ (o : Option Act). book os (cs ++ acting o c ∷ [])) v.1)) (
       swap_cl os cs c (acting (Some x) c) refl (λ w. record { name = w.name; fields = w.fields; unanswered = w.unanswered; few_befores = w.few_befores; few_afters = w.few_afters; befores_met = w.befores_met; act_met = met; afters_met = tt; afters_acted = λ _. refl }) l,
       grown_cl os cs c (acting (Some x) c) (ACT a) (ap (λ (y : List Command). Call n ∷ y) (grown (map as_field fs) (map as_before bs ++ []) (map as_before bs ++ (as_act (Some x) ++ [])) (ACT a) (grown (map as_before bs) [] (as_act (Some x) ++ []) (ACT a) (ap (λ (i : ℕ). ACT i ∷ []) (sym v.2))))),

@@ -2,7 +2,7 @@
 use Rattle.std.proofs.Common.{◌≡◌, ℕ, List, [], map, Ok, Err, Result, sym, ap, ◌∙◌, subst}
 use Rattle.book.specs.Books.{op_name, cl_name, empty_book}
 use Rattle.book.specs.Meaning.{book_of, operation_places, call_places}
-use Rattle.book.specs.declared.tables.Book.{Book}
+use Rattle.book.specs.declared.table.Book.{Book}
 use Rattle.book_file.proofs.Law.{holds}
 use Rattle.book_file.proofs.Places.{operations_stand, calls_stand}
 use Rattle.book_file.specs.Law.{book_format, operation_name, call_name}

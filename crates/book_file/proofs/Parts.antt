@@ -2,10 +2,10 @@
 use Rattle.std.proofs.Common.{◌≡◌, ℕ, zero, suc, ◌+◌, ◌<◌, ◌≤◌, Bool, true, false, cond, not, ◌&&◌, eqb, leb, List, [], ◌∷◌, ◌++◌, length, is_some, Some, None, Decides, sym, refl, le_of_suc-le-suc, not-suc-le-zero, arith, ltb-true, ne_eqb, eqb-true, le-leb, leb-true}
 use Rattle.book.proofs.Sets.{has_decides}
 use Rattle.book.specs.Books.{Op, marks_at, has, has_all, full, named, filled}
-use Rattle.book.specs.declared.tables.Act.TheVariants.{Look, Put}
-use Rattle.book.specs.declared.tables.Act.{Act}
-use Rattle.book.specs.declared.tables.Condition.TheVariants.{Always, NotZero, Zero}
-use Rattle.book.specs.declared.tables.Condition.{Condition}
+use Rattle.book.specs.declared.table.Act.TheVariants.{Look, Put}
+use Rattle.book.specs.declared.table.Act.{Act}
+use Rattle.book.specs.declared.table.Condition.TheVariants.{Always, NotZero, Zero}
+use Rattle.book.specs.declared.table.Condition.{Condition}
 use Rattle.book_file.specs.Law.{Apart, Prints, Proper, Marked, Met, act_number, condition_number}
 use Rattle.book_file.specs.Operands.{act_of, condition_of}
 use Rattle.std.proofs.ByRecursion.{All-push, Decides-by_and}
@@ -13,7 +13,7 @@ use Rattle.std.proofs.lemmas.Slice.Eq.{bytes_eq-Decides}
 use Rattle.std.proofs.lemmas.List.{length-append, length_push}
 use Rattle.std.proofs.lemmas.Bool.{or_parts, or_from, not_from_true, false≢true}
 use Rattle.std.proofs.lemmas.Bool.Decides.{not_from_Decides}
-use Rattle.std.specs.List.{ContainsAt as Has, AllByRecursion as All, slice_get}
+use Rattle.std.specs.List.{ContainsAt as Has, AllByRecursion, slice_get}
 use Rattle.std.specs.Str.{bytes_eq}
 use Rattle.tables.specs.Lists.{roomy}
 use Rattle.tables.specs.Names.{prints, proper}
@@ -21,20 +21,20 @@ use Rattle.tables.specs.Search.{first_from}
 use borrow.Author.Tests.{eqb-false, not-false}
 
 -- what holds of all holds of one in the middle
-pub all_mid : {X : Type 0} (P : X → Type 0) (xs : List X) (y : X) (ys : List X) → All P (xs ++ y ∷ ys) → P y
+pub all_mid : {X : Type 0} (P : X → Type 0) (xs : List X) (y : X) (ys : List X) → AllByRecursion P (xs ++ y ∷ ys) → P y
 all_mid P [] y ys h = h.0
 all_mid P (x ∷ xs) y ys h = all_mid P xs y ys h.1
 
 -- another in the place of the last
-pub all_swap : {X : Type 0} (P : X → Type 0) (xs : List X) (x y : X) → (P x → P y) → All P (xs ++ x ∷ []) → All P (xs ++ y ∷ [])
+pub all_swap : {X : Type 0} (P : X → Type 0) (xs : List X) (x y : X) → (P x → P y) → AllByRecursion P (xs ++ x ∷ []) → AllByRecursion P (xs ++ y ∷ [])
 all_swap P [] x y f h = (f h.0, tt)
 all_swap P (z ∷ xs) x y f h = (h.0, all_swap P xs x y f h.1)
 
-pub apart_push : {X : Type 0} (xs : List X) (x : X) → Apart xs → All (λ y. y ≡ x → ⊥) xs → Apart (xs ++ x ∷ [])
+pub apart_push : {X : Type 0} (xs : List X) (x : X) → Apart xs → AllByRecursion (λ y. y ≡ x → ⊥) xs → Apart (xs ++ x ∷ [])
 apart_push [] x h a = (tt, tt)
 apart_push (z ∷ xs) x h a = (All-push (λ y. z ≡ y → ⊥) xs x h.0 a.0, apart_push xs x h.1 a.1)
 
-pub apart_mid : {X : Type 0} (xs : List X) (x : X) (ys : List X) → Apart (xs ++ x ∷ ys) → All (λ y. y ≡ x → ⊥) xs
+pub apart_mid : {X : Type 0} (xs : List X) (x : X) (ys : List X) → Apart (xs ++ x ∷ ys) → AllByRecursion (λ y. y ≡ x → ⊥) xs
 apart_mid [] x ys h = tt
 apart_mid (z ∷ xs) x ys h = (all_mid (λ y. z ≡ y → ⊥) xs x ys h.0, apart_mid xs x ys h.1)
 
@@ -52,22 +52,22 @@ is_false : (t : Bool) {P : Type 0} → Decides t P → (P → ⊥) → t ≡ fal
 is_false true d n = absurd (n (d.0 refl))
 is_false false d n = refl
 
-out_from : (i : ℕ) (xs : List (List ℕ)) (x : List ℕ) → is_some (first_from i xs x) ≡ false → All (λ y. y ≡ x → ⊥) xs
+out_from : (i : ℕ) (xs : List (List ℕ)) (x : List ℕ) → is_some (first_from i xs x) ≡ false → AllByRecursion (λ y. y ≡ x → ⊥) xs
 out_from i [] x h = tt
 out_from i (y ∷ ys) x h = at (bytes_eq y x) refl h (out_from (i + 1) ys x)
   where
-    at : (t : Bool) → bytes_eq y x ≡ t → is_some (cond t (Some i) (first_from (i + 1) ys x)) ≡ false → (is_some (first_from (i + 1) ys x) ≡ false → All (λ z. z ≡ x → ⊥) ys) → All (λ z. z ≡ x → ⊥) (y ∷ ys)
+    at : (t : Bool) → bytes_eq y x ≡ t → is_some (cond t (Some i) (first_from (i + 1) ys x)) ≡ false → (is_some (first_from (i + 1) ys x) ≡ false → AllByRecursion (λ z. z ≡ x → ⊥) ys) → AllByRecursion (λ z. z ≡ x → ⊥) (y ∷ ys)
     at true e h f = absurd (false≢true (sym h))
     at false e h f = (not_from_Decides (bytes_eq y x) (bytes_eq-Decides y x) e, f h)
 
-from_out : (i : ℕ) (xs : List (List ℕ)) (x : List ℕ) → All (λ y. y ≡ x → ⊥) xs → is_some (first_from i xs x) ≡ false
+from_out : (i : ℕ) (xs : List (List ℕ)) (x : List ℕ) → AllByRecursion (λ y. y ≡ x → ⊥) xs → is_some (first_from i xs x) ≡ false
 from_out i [] x h = refl
 from_out i (y ∷ ys) x h = rw (is_false (bytes_eq y x) (bytes_eq-Decides y x) h.0) (from_out (i + 1) ys x h.1)
 
-pub named_out : (xs : List (List ℕ)) (x : List ℕ) → named xs x ≡ false → All (λ y. y ≡ x → ⊥) xs
+pub named_out : (xs : List (List ℕ)) (x : List ℕ) → named xs x ≡ false → AllByRecursion (λ y. y ≡ x → ⊥) xs
 named_out = out_from 0
 
-pub out_named : (xs : List (List ℕ)) (x : List ℕ) → All (λ y. y ≡ x → ⊥) xs → named xs x ≡ false
+pub out_named : (xs : List (List ℕ)) (x : List ℕ) → AllByRecursion (λ y. y ≡ x → ⊥) xs → named xs x ≡ false
 out_named = from_out 0
 
 cond_and : (t u : Bool) → cond t u false ≡ (t && u)
@@ -81,7 +81,7 @@ prints_decides x = (at (leb 32 x) refl, λ h. rw (le-leb 32 x h.0) (le-leb x 126
     at true e h = (leb-true 32 x e, leb-true x 126 h)
     at false e h = absurd (false≢true h)
 
-proper_decides : (xs : List ℕ) → Decides (proper xs) (All Prints xs)
+proper_decides : (xs : List ℕ) → Decides (proper xs) (AllByRecursion Prints xs)
 proper_decides xs = Decides-by_and prints Prints proper prints_decides refl (λ y ys. cond_and (prints y) (proper ys)) xs
 
 pub name_is : (n : List ℕ) → length n ≡ 8 → not (proper n) ≡ false → Proper n
@@ -92,20 +92,20 @@ is_name n h = not_from_true (proper n) ((proper_decides n).1 h.prints)
 
 -- Marks.
 
-has_all_decides : (ms ns : List ℕ) → Decides (has_all ms ns) (All (Has ms) ns)
+has_all_decides : (ms ns : List ℕ) → Decides (has_all ms ns) (AllByRecursion (Has ms) ns)
 has_all_decides ms ns = Decides-by_and (has ms) (Has ms) (has_all ms) (has_decides ms) refl (λ _ _. refl) ns
 
-pub has_all_true : (ms ns : List ℕ) → not (has_all ms ns) ≡ false → All (Has ms) ns
+pub has_all_true : (ms ns : List ℕ) → not (has_all ms ns) ≡ false → AllByRecursion (Has ms) ns
 has_all_true ms ns h = (has_all_decides ms ns).0 (not-false (has_all ms ns) h)
 
-pub all_has : (ms ns : List ℕ) → All (Has ms) ns → not (has_all ms ns) ≡ false
+pub all_has : (ms ns : List ℕ) → AllByRecursion (Has ms) ns → not (has_all ms ns) ≡ false
 all_has ms ns h = not_from_true (has_all ms ns) ((has_all_decides ms ns).1 h)
 
-has_out : (xs : List ℕ) (x : ℕ) → has xs x ≡ false → All (λ y. y ≡ x → ⊥) xs
+has_out : (xs : List ℕ) (x : ℕ) → has xs x ≡ false → AllByRecursion (λ y. y ≡ x → ⊥) xs
 has_out [] x h = tt
 has_out (y ∷ ys) x h = let p = or_parts (eqb y x) (has ys x) h in (eqb-false y x p.0, has_out ys x p.1)
 
-out_has : (xs : List ℕ) (x : ℕ) → All (λ y. y ≡ x → ⊥) xs → has xs x ≡ false
+out_has : (xs : List ℕ) (x : ℕ) → AllByRecursion (λ y. y ≡ x → ⊥) xs → has xs x ≡ false
 out_has [] x h = refl
 out_has (y ∷ ys) x h = or_from (eqb y x) (has ys x) (ne_eqb y x h.0) (out_has ys x h.1)
 

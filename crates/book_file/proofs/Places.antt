@@ -1,7 +1,7 @@
 -- In the file that was read, the name of each operation and of each call stands at its place.
 use Rattle.std.proofs.Common.{◌≡◌, ℕ, ◌+◌, List, [], ◌++◌, map, length, take, Some, None, Option, sym, refl, ap, ◌∙◌, subst, subst₂, zero-add}
 use Rattle.book.specs.Books.{Op, Cl, Bk, op_name, cl_name}
-use Rattle.book.specs.declared.tables.Act.{Act}
+use Rattle.book.specs.declared.table.Act.{Act}
 use Rattle.book_file.proofs.Law.{holds}
 use Rattle.book_file.specs.Law.{bytes_of, as_field, as_before, as_act, as_after, of_op, of_cl, book_format, operation_name, call_name}
 use Rattle.book_file.specs.declared.commands.Command.TheVariants.{Field, Before, Act as ACT, After as AFTER}

@@ -1,9 +1,9 @@
 -- The commands of a lawful book, one after the other, make that book.
 use Rattle.std.proofs.Common.{◌≡◌, ℕ, ◌≤◌, not, eqb, List, [], ◌∷◌, ◌++◌, map, length, is_some, Some, None, Option, sym, refl, ap, ◌∙◌, subst, ne_eqb}
 use Rattle.book.specs.Books.{Op, Cl, Bk, empty_book, op_name, cl_name, or_else, acting, followed, has_all, act_needs}
-use Rattle.book.specs.declared.tables.Act.{Act}
-use Rattle.book.specs.declared.tables.After.{After}
-use Rattle.book.specs.declared.tables.Condition.{Condition}
+use Rattle.book.specs.declared.table.Act.{Act}
+use Rattle.book.specs.declared.table.After.{After}
+use Rattle.book.specs.declared.table.Condition.{Condition}
 use Rattle.book_file.proofs.Bytes.{Sized}
 use Rattle.book_file.proofs.Ends.{book, call, Fits, mark_misplaced, mark_crowded, mark_taken, mark_obey, field_misplaced, field_crowded, field_outside, field_taken, field_obey, before_misplaced, before_crowded, before_lacking, before_obey, act_misplaced, act_lacking, act_obey, after_misplaced, after_crowded, after_lacking, after_obey}
 use Rattle.book_file.proofs.Parts.{all_mid, apart_mid, less_full, shorter_front, out_named, is_name, marks_mid, all_has, met_defined, met_filled, act_back, condition_back}
@@ -13,7 +13,7 @@ use Rattle.book_file.specs.declared.commands.Command.{Command}
 use Rattle.format.proofs.Runs.{Ran, ran_append, ran_joined, ran_map}
 use Rattle.std.proofs.lemmas.List.{map-append}
 use Rattle.std.proofs.lemmas.Bool.{or_from}
-use Rattle.std.specs.List.{ContainsAt as Has, flat_map, AllByRecursion as All}
+use Rattle.std.specs.List.{ContainsAt as Has, flat_map, AllByRecursion}
 use Rattle.tables.specs.declared.name.Name.{Name}
 
 -- the command has a whole name and fits
@@ -25,7 +25,7 @@ abbrev pub Made : List Command → Bk → Bk → Type 0
 Made = Ran obey Good
 
 -- a name that is apart from all others is new among those before it
-pub unlike : {X : Type 0} (f : X → List ℕ) (ds : List X) (o : X) (ms : List X) → Apart (map f (ds ++ o ∷ ms)) → All (λ y. y ≡ f o → ⊥) (map f ds)
+pub unlike : {X : Type 0} (f : X → List ℕ) (ds : List X) (o : X) (ms : List X) → Apart (map f (ds ++ o ∷ ms)) → AllByRecursion (λ y. y ≡ f o → ⊥) (map f ds)
 unlike f ds o ms h = apart_mid (map f ds) (f o) (map f ms) (subst Apart (map-append f ds (o ∷ ms)) h)
 
 -- The parts of an operation and of a call.
@@ -42,7 +42,7 @@ module _ (os : List Op) (cs : List Cl) (n : Name) where
   ending fs bs a ss = book os (cs ++ call n fs bs a ss ∷ [])
 
   abbrev Fields : List ℕ → Type 0
-  Fields fs = Marked 8 fs × All (λ m. m ≡ 255 → ⊥) fs
+  Fields fs = Marked 8 fs × AllByRecursion (λ m. m ≡ 255 → ⊥) fs
 
   fields_ran : (fs : List ℕ) → Fields fs → Made (map as_field fs) (ending [] [] None []) (ending fs [] None [])
   fields_ran = ran_map obey Good as_field (λ ds. ending ds [] None []) Fields (λ ds m ms h.
@@ -52,7 +52,7 @@ module _ (os : List Op) (cs : List Cl) (n : Name) where
       ((tt, record { placed = field_misplaced os cs c m; room = field_crowded os cs c m ∙ t.room; inside = field_outside os cs c m ∙ or_from (eqb m 0) (eqb m 255) t.proper u; defined = refl; fresh = field_taken os cs c m ∙ t.fresh; met = refl }), field_obey os cs c m))
 
   abbrev Befores : List ℕ → List ℕ → Type 0
-  Befores fs bs = (length bs ≤ 8) × All (Met os fs) bs
+  Befores fs bs = (length bs ≤ 8) × AllByRecursion (Met os fs) bs
 
   befores_ran : (fs bs : List ℕ) → Befores fs bs → Made (map as_before bs) (ending fs [] None []) (ending fs bs None [])
   befores_ran fs = ran_map obey Good as_before (λ ds. ending fs ds None []) (Befores fs) (λ ds k ms h.
@@ -60,7 +60,7 @@ module _ (os : List Op) (cs : List Cl) (n : Name) where
       let t = all_mid (Met os fs) ds k ms h.1 in
       ((tt, record { placed = before_misplaced os cs c k; room = before_crowded os cs c k ∙ less_full 8 ds (shorter_front 8 ds k ms h.0); inside = refl; defined = met_defined os fs k t; fresh = refl; met = before_lacking os cs c k ∙ met_filled os fs k t }), before_obey os cs c k))
 
-  act_ran : (fs bs : List ℕ) (a : Option Act) → All (Has fs) (or_else [] act_needs a) → Made (as_act a) (ending fs bs None []) (ending fs bs a [])
+  act_ran : (fs bs : List ℕ) (a : Option Act) → AllByRecursion (Has fs) (or_else [] act_needs a) → Made (as_act a) (ending fs bs None []) (ending fs bs a [])
   act_ran fs bs None h = refl
   act_ran fs bs (Some a) h =
       let c = call n fs bs None [] in
@@ -69,7 +69,7 @@ module _ (os : List Op) (cs : List Cl) (n : Name) where
       ((tt, record { placed = act_misplaced os cs c i; room = refl; inside = ap (λ (o : Option Act). not (is_some o)) e; defined = refl; fresh = refl; met = act_lacking os cs c i ∙ ap (λ (o : Option Act). not (has_all fs (or_else [] act_needs o))) e ∙ all_has fs (act_needs a) h }), act_obey os cs c i ∙ ap (λ (o : Option Act). book os (cs ++ acting o c ∷ [])) e)
 
   abbrev Afters : List ℕ → List After → Type 0
-  Afters fs ss = (length ss ≤ 8) × All (λ s. Met os (255 ∷ fs) s.operation) ss
+  Afters fs ss = (length ss ≤ 8) × AllByRecursion (λ s. Met os (255 ∷ fs) s.operation) ss
 
   afters_after : (fs bs : List ℕ) (a : Act) (ss : List After) → Afters fs ss → Made (map as_after ss) (ending fs bs (Some a) []) (ending fs bs (Some a) ss)
   afters_after fs bs a = ran_map obey Good as_after (λ ds. ending fs bs (Some a) ds) (Afters fs) (λ ds s ms h.
@@ -87,7 +87,7 @@ module _ (os : List Op) (cs : List Cl) (n : Name) where
 -- Operations and calls.
 
 abbrev Ops : List Op → Type 0
-Ops os = (length os ≤ 64) × Apart (map op_name os) × All LawfulOp os
+Ops os = (length os ≤ 64) × Apart (map op_name os) × AllByRecursion LawfulOp os
 
 ops_ran : (os : List Op) → Ops os → Made (flat_map of_op os) (book [] []) (book os [])
 ops_ran os = ran_joined obey Good of_op (λ ds. book ds []) Ops (λ ds o ms h.
@@ -103,7 +103,7 @@ parts_ran os cs c k =
     (afters_ran os cs n c.fields c.befores c.act c.afters k.afters_acted (k.few_afters, k.afters_met))))
 
 abbrev Cls : List Op → List Cl → Type 0
-Cls os cs = (length cs ≤ 64) × Apart (map cl_name cs) × All (LawfulCl os) cs
+Cls os cs = (length cs ≤ 64) × Apart (map cl_name cs) × AllByRecursion (LawfulCl os) cs
 
 calls_ran : (os : List Op) (cs : List Cl) → Cls os cs → Made (flat_map of_cl cs) (book os []) (book os cs)
 calls_ran os cs = ran_joined obey Good of_cl (book os) (Cls os) (λ ds c ms h.

@@ -1,7 +1,7 @@
 -- A lawful book is written in at most 64 * (9 + 6 * 2) + 64 * (9 + 8 * 2 + 8 * 2 + 2 + 8 * 3) = 5632 bytes.
 use Rattle.std.proofs.Common.{◌≤◌, List, ◌++◌, map, length, Some, None, Option, refl, arith}
 use Rattle.book.specs.Books.{Op, Cl, Bk}
-use Rattle.book.specs.declared.tables.Act.{Act}
+use Rattle.book.specs.declared.table.Act.{Act}
 use Rattle.book_file.specs.Law.{bytes_of, as_field, as_before, as_act, as_after, of_op, of_cl, book_format, LawfulOp, LawfulCl, Lawful}
 use Rattle.format.proofs.Sizes.{size, size_append, size_joined, size_map}
 use Rattle.format.specs.Format.{written}

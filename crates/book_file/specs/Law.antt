@@ -1,11 +1,11 @@
 -- How a book is written and which books are lawful: nothing is read here.
 use Rattle.std.specs.Prelude.{◌≡◌, ℕ, ◌<◌, ◌≤◌, Bool, false, List, [], ◌∷◌, ◌++◌, map, length, Some, None, Option, ◌≢◌}
 use Rattle.book.specs.Books.{Op, Cl, Bk, empty_book, op_name, cl_name, or_else, marks_at, act_needs}
-use Rattle.book.specs.declared.tables.Act.TheVariants.{Look, Put}
-use Rattle.book.specs.declared.tables.Act.{Act}
-use Rattle.book.specs.declared.tables.After.{After}
-use Rattle.book.specs.declared.tables.Condition.TheVariants.{Always, NotZero, Zero}
-use Rattle.book.specs.declared.tables.Condition.{Condition}
+use Rattle.book.specs.declared.table.Act.TheVariants.{Look, Put}
+use Rattle.book.specs.declared.table.Act.{Act}
+use Rattle.book.specs.declared.table.After.{After}
+use Rattle.book.specs.declared.table.Condition.TheVariants.{Always, NotZero, Zero}
+use Rattle.book.specs.declared.table.Condition.{Condition}
 use Rattle.book_file.specs.Changes.{obey}
 use Rattle.book_file.specs.Commands.{command_at}
 use Rattle.book_file.specs.Tests.{answered, tests}
@@ -13,7 +13,7 @@ use Rattle.book_file.specs.declared.commands.Command.TheVariants.{Operation, Fie
 use Rattle.book_file.specs.declared.commands.Command.{Command}
 use Rattle.format.specs.Bytes.{size_at}
 use Rattle.format.specs.Format.{Format}
-use Rattle.std.specs.List.{ContainsAt as Has, flat_map, AllByRecursion as All}
+use Rattle.std.specs.List.{ContainsAt as Has, flat_map, AllByRecursion}
 
 -- The writing.
 
@@ -71,7 +71,7 @@ commands_of b = flat_map of_op b.operations ++ flat_map of_cl b.calls
 -- no element is equal to a later one
 abbrev pub Apart : {X : Type 0} → List X → Type 0
 Apart [] = Unit {0}
-Apart (x ∷ xs) = All (λ y. x ≢ y) xs × Apart xs
+Apart (x ∷ xs) = AllByRecursion (λ y. x ≢ y) xs × Apart xs
 
 -- a letter can be printed
 abbrev pub Prints : ℕ → Type 0
@@ -80,12 +80,12 @@ Prints x = (32 ≤ x) × (x ≤ 126)
 -- a name: eight letters that can be printed
 pub record Proper (letters : List ℕ) : Type 0 where
   pub eight : length letters ≡ 8
-  pub prints : All Prints letters
+  pub prints : AllByRecursion Prints letters
 
 -- the marks of an operation or a call: at most so many, none of them 0, and no two the same
 pub record Marked (most : ℕ) (marks : List ℕ) : Type 0 where
   pub few : length marks ≤ most
-  pub proper : All (λ m. 0 < m) marks
+  pub proper : AllByRecursion (λ m. 0 < m) marks
   pub apart : Apart marks
 
 -- an operation: a name and at most 6 marks
@@ -96,22 +96,22 @@ pub record LawfulOp (o : Op) : Type 0 where
 -- a step of operation k can be filled from those marks: the operation is there, and each of its marks is one of them
 pub record Met (ops : List Op) (marks : List ℕ) (k : ℕ) : Type 0 where
   pub defined : k < length ops
-  pub filled : All (Has marks) (marks_at ops k)
+  pub filled : AllByRecursion (Has marks) (marks_at ops k)
 
 -- a call of a book with those operations
 pub record LawfulCl (ops : List Op) (c : Cl) : Type 0 where
   pub name : Proper (cl_name c)
   -- at most 8 fields, none of them the register's answer
   pub fields : Marked 8 c.fields
-  pub unanswered : All (λ m. m ≢ 255) c.fields
+  pub unanswered : AllByRecursion (λ m. m ≢ 255) c.fields
   -- at most 8 BEFOREs, each filled from the fields
   pub few_befores : length c.befores ≤ 8
-  pub befores_met : All (Met ops c.fields) c.befores
+  pub befores_met : AllByRecursion (Met ops c.fields) c.befores
   -- an ACT's marks are fields
-  pub act_met : All (Has c.fields) (or_else [] act_needs c.act)
+  pub act_met : AllByRecursion (Has c.fields) (or_else [] act_needs c.act)
   -- at most 8 AFTERs, each filled from the fields and the register's answer, and none without an ACT
   pub few_afters : length c.afters ≤ 8
-  pub afters_met : All (λ s. Met ops (answered c) s.operation) c.afters
+  pub afters_met : AllByRecursion (λ s. Met ops (answered c) s.operation) c.afters
   pub afters_acted : c.act ≡ None → c.afters ≡ []
 
 -- a book: at most 64 operations and 64 calls, each lawful, and of each kind no two of one name
@@ -120,8 +120,8 @@ pub record Lawful (b : Bk) : Type 0 where
   pub few_calls : length b.calls ≤ 64
   pub operations_apart : Apart (map op_name b.operations)
   pub calls_apart : Apart (map cl_name b.calls)
-  pub each_operation : All LawfulOp b.operations
-  pub each_call : All (LawfulCl b.operations) b.calls
+  pub each_operation : AllByRecursion LawfulOp b.operations
+  pub each_call : AllByRecursion (LawfulCl b.operations) b.calls
 
 -- a book may end anywhere
 abbrev pub unfinished : Bk → Bool

@@ -1,9 +1,9 @@
 -- The acts and conditions that operands stand for.
 use Rattle.std.specs.Prelude.{ℕ, cond, Some, None, Option, ◌==◌}
-use Rattle.book.specs.declared.tables.Act.TheVariants.{Look, Put}
-use Rattle.book.specs.declared.tables.Act.{Act}
-use Rattle.book.specs.declared.tables.Condition.TheVariants.{Always, NotZero, Zero}
-use Rattle.book.specs.declared.tables.Condition.{Condition}
+use Rattle.book.specs.declared.table.Act.TheVariants.{Look, Put}
+use Rattle.book.specs.declared.table.Act.{Act}
+use Rattle.book.specs.declared.table.Condition.TheVariants.{Always, NotZero, Zero}
+use Rattle.book.specs.declared.table.Condition.{Condition}
 
 -- the act that an operand of ACT stands for, where it stands for one
 abbrev pub act_of : ℕ → Option Act

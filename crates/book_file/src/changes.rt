@@ -10,7 +10,7 @@ ghost use Rattle.format.specs.Refusals.{told};
 use crate::commands::Command;
 use crate::operands::{act_of, condition_of};
 use book::marks::{has, has_all};
-use book::tables::{Book, CALLS, Call, FIELDS, MARKS, OPERATIONS, STEPS};
+use book::table::{Book, CALLS, Call, FIELDS, MARKS, OPERATIONS, STEPS};
 use format::refusal::Refusal;
 use tables::name::Name;
 

@@ -2,7 +2,7 @@
 ghost use Rattle.book_file.specs.Operands.{act_of, condition_of};
 ghost use Rattle.std.specs.Prelude.{◌≡◌};
 
-use book::tables::{Act, Condition};
+use book::table::{Act, Condition};
 
 // The act that a number stands for.
 pub(crate) fn act_of(number: u8) -> Option<Act>

@@ -9,7 +9,7 @@ ghost use Rattle.format.specs.Refusals.{stepped, numbered};
 
 use crate::changes::obey;
 use crate::commands::read_command;
-use book::tables::Book;
+use book::table::Book;
 use format::files::{LONGEST, byte_count};
 use format::refusal::{Refusal, Refused};
 

@@ -15,7 +15,7 @@ use Rattle.run.specs.declared.answers.Answer.TheVariants.{Done, Denied, Stopped,
 use Rattle.run.specs.declared.answers.Answer.{Answer}
 use Rattle.run.specs.declared.answers.Phase.TheVariants.{Before, After}
 use Rattle.run.specs.declared.answers.Refusal.TheVariants.{Stopped as RunStopped, NoSuchCall, WrongCount, NoSuchPlot, NoSuchCell}
-use Rattle.std.specs.List.{AllByRecursion as All}
+use Rattle.std.specs.List.{AllByRecursion}
 
 -- The files.
 

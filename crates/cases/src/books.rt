@@ -1,6 +1,6 @@
 // Files read as books: one table of refusals, the counts, the lengths, and the example cut short and changed.
 use crate::files::{BOOK, Case, refused, repeated};
-use book::tables::Book;
+use book::table::Book;
 use book_file::reading::read_book;
 use format::refusal::Refused;
 use std::process::Abort;

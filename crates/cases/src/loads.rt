@@ -1,7 +1,7 @@
 // Pairs of files that give a table or the one fault.
 use crate::files::{BOOK, POLICY};
 use loading::load::load;
-use policy::tables::Table;
+use policy::table::Table;
 use std::alloc::Global;
 use std::process::Abort;
 use std::test::Fail;

@@ -1,7 +1,7 @@
 // Tables that are marked: the example, an empty policy, a long chain, a cycle, a group that covers nothing.
 use crate::files::{BOOK, POLICY, chain};
 use loading::load::load;
-use policy::tables::Table;
+use policy::table::Table;
 use pruning::marking::mark;
 use pruning::marks::Marks;
 use pruning::reasons::count_steps;

@@ -1,10 +1,10 @@
 // Files read as policies against the example book: refusals, counts, coverage, naming, and the example cut short and changed.
 use crate::files::{BOOK, Case, POLICY, refused, repeated};
-use book::tables::Book;
+use book::table::Book;
 use book_file::reading::read_book;
 use format::refusal::Refused;
 use policy::naming::{Asked, name_of};
-use policy::tables::Table;
+use policy::table::Table;
 use policy_file::reading::read_policy;
 use std::process::Abort;
 use std::test::Fail;

@@ -1,7 +1,7 @@
 // The worked cases run on the code, each afresh on three plots of 0: as a flat register, and as two joined.
 use crate::files::{BOOK, POLICY};
 use loading::load::load;
-use policy::tables::Table;
+use policy::table::Table;
 use register::flat::Flat;
 use register::joined::Joined;
 use register::register::Register;

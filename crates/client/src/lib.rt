@@ -7,7 +7,7 @@ ghost use Rattle.run.specs.Calls.{call_of};
 ghost use Rattle.run.specs.Runs.{opened};
 ghost use Rattle.std.specs.Prelude.{◌≡◌};
 
-use policy::tables::Table;
+use policy::table::Table;
 use register::flat::Flat;
 use run::answers::Answer;
 use run::run::Run;

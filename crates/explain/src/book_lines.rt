@@ -1,5 +1,5 @@
 // The lines that tell a book, as values.
-use book::tables::{Act, Call, Condition, Operation};
+use book::table::{Act, Call, Condition, Operation};
 use std::fmt;
 
 // The mark that the register's answer fills.

@@ -8,12 +8,12 @@ mod policy_lines;
 #[cfg(test)]
 mod tests;
 
-use book::tables::Call;
+use book::table::Call;
 use book_lines::{ActLine, AfterLine, BeforeLine, CallLine, OperationLine};
 use loading::found::found;
 use loading::load::load;
 use matters::Matter;
-use policy::tables::Table;
+use policy::table::Table;
 use policy_lines::{CellLine, ClauseLine, GroupLine};
 use pruning::marking::mark;
 use pruning::marks::Marks;

@@ -1,5 +1,5 @@
 // Whether a cell, a clause or a step matters, and why.
-use policy::tables::Table;
+use policy::table::Table;
 use pruning::marks::{Marks, Reason, Tie};
 use pruning::reasons::{lowest, why};
 use std::fmt;

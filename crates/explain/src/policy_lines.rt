@@ -1,6 +1,6 @@
 // The lines that tell a policy, as values.
-use book::tables::{Book, OPERATIONS};
-use policy::tables::{Action, Clause, Comparison, Term, When, Write};
+use book::table::{Book, OPERATIONS};
+use policy::table::{Action, Clause, Comparison, Term, When, Write};
 use std::fmt;
 
 // The mark that the register's answer fills.

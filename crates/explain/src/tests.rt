@@ -1,9 +1,9 @@
 // Examples of steps that the shipped book does not have.
 use crate::book_lines::{AfterLine, BeforeLine};
 use crate::policy_lines::{ClauseLine, GroupLine};
-use book::tables::{Book, Condition};
+use book::table::{Book, Condition};
 use book_file::reading::read_book;
-use policy::tables::Table;
+use policy::table::Table;
 use policy_file::reading::read_policy;
 use std::test::Fail;
 

@@ -1,7 +1,7 @@
 -- The first test that speaks against something.
 use Rattle.std.proofs.Common.{◌≡◌, ℕ, zero, suc, ◌+◌, ◌<◌, Bool, true, false, cond, ◌⊎◌, List, [], ◌∷◌, get_or, Ok, Err, Result, sym, refl, ap, ◌∙◌, inl, inr, le_of_suc-le-suc, not-suc-le-zero, add-zero, add-suc, suc-add, zero-add, arith}
 use Rattle.format.specs.Format.{unless, never, Stops}
-use Rattle.std.specs.List.{AllByRecursion as All}
+use Rattle.std.specs.List.{AllByRecursion}
 
 ok_err : {Z : Type 0} (w : Z) (n : ℕ) → ◌≡◌ {A = Result Z ℕ} (Ok w) (Err n) → ⊥
 ok_err w n e = let z : ◌≡◌ {A = ℕ} 0 1 = cc in omega arith
@@ -20,7 +20,7 @@ below_suc P k z s (suc j) h = s j (le_of_suc-le-suc h)
 
 module _ {X Y Z : Type 0} (x : X) (y : Y) (z : Z) where
   -- where there is an answer, each test was passed
-  pub passed : (n : ℕ) (ts : List (X → Y → Bool)) (w : Z) → Ok w ≡ unless n ts x y z → (w ≡ z) × All (λ (t : X → Y → Bool). t x y ≡ false) ts
+  pub passed : (n : ℕ) (ts : List (X → Y → Bool)) (w : Z) → Ok w ≡ unless n ts x y z → (w ≡ z) × AllByRecursion (λ (t : X → Y → Bool). t x y ≡ false) ts
   passed n [] w e = (cc, tt)
   passed n (t ∷ ts) w e =
       let h = ok_cond n (t x y) w (unless (suc n) ts x y z) e in
@@ -28,7 +28,7 @@ module _ {X Y Z : Type 0} (x : X) (y : Y) (z : Z) where
       (i.0, (h.0, i.1))
 
   -- where each test is passed, there is an answer
-  pub passes : (n : ℕ) (ts : List (X → Y → Bool)) → All (λ (t : X → Y → Bool). t x y ≡ false) ts → unless n ts x y z ≡ Ok z
+  pub passes : (n : ℕ) (ts : List (X → Y → Bool)) → AllByRecursion (λ (t : X → Y → Bool). t x y ≡ false) ts → unless n ts x y z ≡ Ok z
   passes n [] h = refl
   passes n (t ∷ ts) h = rw h.0 (passes (suc n) ts h.1)
 

@@ -1,6 +1,6 @@
 -- What it is to read a file of commands, of any format: the reading that computes, and the law in words of its own.
 use Rattle.std.specs.Prelude.{◌≡◌, ℕ, zero, suc, ◌+◌, ◌-◌, ◌<◌, ◌≤◌, Bool, true, false, cond, List, [], ◌∷◌, ◌++◌, length, take, drop, Some, None, Ok, Err, Option, Result, nat_lt, slice_index_or}
-use Rattle.std.specs.List.{flat_map, AllByRecursion as All}
+use Rattle.std.specs.List.{flat_map, AllByRecursion}
 use Rattle.format.specs.Bytes.{Bytes}
 use Rattle.format.specs.Refusals.{At}
 
@@ -156,7 +156,7 @@ Stand file (p ∷ ps) (n ∷ ns) = (take (length n) (drop p file) ≡ n) × Stan
 
 -- no test speaks against the command at the front of xs
 abbrev pub Passes : (F : Format) → F.Whole → List ℕ → Type 0
-Passes F b xs = All (λ (t : F.Whole → List ℕ → Bool). t b xs ≡ false) F.tests
+Passes F b xs = AllByRecursion (λ (t : F.Whole → List ℕ → Bool). t b xs ≡ false) F.tests
 
 -- the commands, one after the other, are read from their bytes and make a of b
 abbrev pub Runs : (F : Format) → List F.Command → F.Whole → F.Whole → Type 0

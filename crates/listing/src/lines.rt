@@ -4,8 +4,8 @@ ghost use Rattle.listing.specs.Lines.{lines_from, cell_line, clause_line, call_l
 ghost use Rattle.policy.specs.Meaning.{policy_of, table_of};
 ghost use Rattle.std.specs.Prelude.{◌≡◌, false, ◌++◌, IfOk, Some, OnOk, slice_index_or};
 
-use book::tables::Call;
-use policy::tables::Table;
+use book::table::Call;
+use policy::table::Table;
 use pruning::marking::mark;
 use pruning::marks::{Marks, StepCount};
 use pruning::reasons::count_steps;

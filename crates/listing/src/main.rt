@@ -7,7 +7,7 @@ mod lines;
 use lines::listing;
 use loading::found::found;
 use loading::load::load;
-use policy::tables::Table;
+use policy::table::Table;
 use std::fs;
 
 fn run(rt: &HostRuntime) -> anyhow::Result<()> {

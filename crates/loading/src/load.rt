@@ -9,9 +9,9 @@ ghost use Rattle.std.specs.Option.{option_map};
 ghost use Rattle.std.specs.Prelude.{◌≡◌};
 
 use crate::fault::Fault;
-use book::tables::Book;
+use book::table::Book;
 use book_file::reading::read_book;
-use policy::tables::Table;
+use policy::table::Table;
 use policy_file::reading::read_policy;
 
 // Reads the book, and the policy against it, into the table; a fault leaves the table of two empty

@@ -5,10 +5,10 @@ use Rattle.book.specs.Books.{has}
 use Rattle.policy.proofs.Among.{among_nil, among_here, among_later, among_cons, among_append, among_joined}
 use Rattle.policy.specs.Coverage.Covers.{by_has, by_nest}
 use Rattle.policy.specs.Coverage.{Gr, members_at, Covers, Applies, brought, coverages_from, coverages, covered, applies_to, flagged, flags}
-use Rattle.policy.specs.declared.tables.Member.TheVariants.{Has, Nest}
-use Rattle.policy.specs.declared.tables.Member.{Member}
-use Rattle.policy.specs.declared.tables.Target.TheVariants.{Operation, Group}
-use Rattle.policy.specs.declared.tables.Target.{Target}
+use Rattle.policy.specs.declared.table.Member.TheVariants.{Has, Nest}
+use Rattle.policy.specs.declared.table.Member.{Member}
+use Rattle.policy.specs.declared.table.Target.TheVariants.{Operation, Group}
+use Rattle.policy.specs.declared.table.Target.{Target}
 use Rattle.std.proofs.lemmas.List.{append-nil, append_assoc, length_push, length-set, length-replicate, get_or_append_left, get_or_push, get_or-replicate, get_or-set_same, get_or-set_other, ext_get_or}
 use Rattle.std.proofs.lemmas.Bool.{cases_eq, or_cases, or_left, eq-eqb, ne_eqb, eqb-true, false≢true}
 use Rattle.std.proofs.lemmas.Bool.Decides.{same_from_decides}

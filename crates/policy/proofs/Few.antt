@@ -1,7 +1,7 @@
 -- A table in memory has at most 256 clauses and 128 cells.
 use Rattle.std.proofs.Common.{◌≤◌, length, arith}
 use Rattle.policy.specs.Meaning.{cs_of, policy_of}
-use Rattle.policy.specs.declared.tables.Table.{Table}
+use Rattle.policy.specs.declared.table.Table.{Table}
 use Rattle.std.proofs.lemmas.List.{length-map}
 use Rattle.tables.proofs.Long.{rows_long}
 use Rattle.tables.specs.Rows.{rows_of}

@@ -2,7 +2,7 @@
 use Rattle.std.proofs.Common.{◌≡◌, ℕ, ◌<◌, ◌≤◌, List, map, length, get_or, Some, None, sym, refl, ap, ◌∙◌, subst, arith}
 use Rattle.policy.specs.Meaning.{cs_of}
 use Rattle.policy.specs.Policies.{Cs}
-use Rattle.policy.specs.declared.tables.Clause.{Clause}
+use Rattle.policy.specs.declared.table.Clause.{Clause}
 use Rattle.std.proofs.lemmas.List.{length-map, get_or-map}
 use Rattle.std.proofs.lemmas.Option.{slice_get_read, slice_get_past}
 use Rattle.std.specs.List.{slice_get}

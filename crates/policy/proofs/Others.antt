@@ -1,7 +1,7 @@
 -- A policy with other groups, and with other clauses; a clause that has begun.
 use Rattle.policy.specs.Coverage.{Gr}
 use Rattle.policy.specs.Policies.{Cs, Po}
-use Rattle.policy.specs.declared.tables.Target.{Target}
+use Rattle.policy.specs.declared.table.Target.{Target}
 use Rattle.std.proofs.Common.{Bool, List, [], None}
 use Rattle.tables.specs.declared.name.Name.{Name}
 

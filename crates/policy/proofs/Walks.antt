@@ -6,10 +6,10 @@ use Rattle.policy.specs.Coverage.Covers.{by_has, by_nest}
 use Rattle.policy.specs.Coverage.{Gr, members_of, members_at, Covers, covered, flags}
 use Rattle.policy.specs.Meaning.{policy_of}
 use Rattle.policy.specs.Walks.{Complete, Grown}
-use Rattle.policy.specs.declared.tables.Member.TheVariants.{Has, Nest}
-use Rattle.policy.specs.declared.tables.Member.{Member}
-use Rattle.policy.specs.declared.tables.Table.{Table}
-use Rattle.policy.specs.declared.tables.Target.TheVariants.{Group}
+use Rattle.policy.specs.declared.table.Member.TheVariants.{Has, Nest}
+use Rattle.policy.specs.declared.table.Member.{Member}
+use Rattle.policy.specs.declared.table.Table.{Table}
+use Rattle.policy.specs.declared.table.Target.TheVariants.{Group}
 use Rattle.std.proofs.ByRecursion.{has_get_or}
 use Rattle.std.proofs.lemmas.List.{get_or-set_same, get_or-set_other, get_or_past, get_or-replicate, length-map, length-replicate}
 use Rattle.std.proofs.lemmas.Option.{slice_get_past}

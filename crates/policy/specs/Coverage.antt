@@ -1,10 +1,10 @@
 -- What a group covers, and to which operations a clause applies.
 use Rattle.std.specs.Prelude.{◌≡◌, ℕ, ◌<◌, Bool, true, false, List, [], ◌∷◌, ◌++◌, replicate, slice_index_or, slice_set}
 use Rattle.book.specs.Books.{or_else}
-use Rattle.policy.specs.declared.tables.Member.TheVariants.{Has, Nest}
-use Rattle.policy.specs.declared.tables.Member.{Member}
-use Rattle.policy.specs.declared.tables.Target.TheVariants.{Operation, Group}
-use Rattle.policy.specs.declared.tables.Target.{Target}
+use Rattle.policy.specs.declared.table.Member.TheVariants.{Has, Nest}
+use Rattle.policy.specs.declared.table.Member.{Member}
+use Rattle.policy.specs.declared.table.Target.TheVariants.{Operation, Group}
+use Rattle.policy.specs.declared.table.Target.{Target}
 use Rattle.std.specs.List.{flat_map, ContainsAt as Among, slice_get}
 
 -- a group: its members

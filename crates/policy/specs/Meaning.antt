@@ -4,9 +4,9 @@ use Rattle.book.specs.Books.{Bk}
 use Rattle.book.specs.Meaning.{book_of}
 use Rattle.policy.specs.Coverage.{Gr}
 use Rattle.policy.specs.Policies.{Cs, Po}
-use Rattle.policy.specs.declared.tables.Clause.{Clause}
-use Rattle.policy.specs.declared.tables.Group.{Group}
-use Rattle.policy.specs.declared.tables.Table.{Table}
+use Rattle.policy.specs.declared.table.Clause.{Clause}
+use Rattle.policy.specs.declared.table.Group.{Group}
+use Rattle.policy.specs.declared.table.Table.{Table}
 use Rattle.tables.specs.Rows.{rows_of}
 
 -- the full table: a book and a policy for it

@@ -6,7 +6,7 @@ use Rattle.policy.specs.declared.naming.Asked.{Asked}
 use Rattle.policy.specs.declared.naming.NamingRefusal.TheVariants.{NoSuchNumber, EndsTooEarly}
 use Rattle.policy.specs.declared.naming.NamingRefusal.{NamingRefusal}
 use Rattle.std.specs.Option.{ok_or}
-use Rattle.std.specs.List.{AllByRecursion as All, slice_get}
+use Rattle.std.specs.List.{AllByRecursion, slice_get}
 use Rattle.std.specs.Borrow.{Bor}
 
 -- each refusal's number: no such call or clause, the bytes handed in end too early
@@ -41,7 +41,7 @@ name_at names k = ok_or (slice_get names k) 25
 
 -- where the names, each of eight letters, stand at the places in the bytes, r is the name of that number
 abbrev pub Hands : List ℕ → List ℕ → ℕ → Result (List ℕ) ℕ → Type 0
-Hands bytes places k r = (names : List (List ℕ)) → Stand bytes places names → All (λ n. length n ≡ 8) names → r ≡ name_at names k
+Hands bytes places k r = (names : List (List ℕ)) → Stand bytes places names → AllByRecursion (λ n. length n ≡ 8) names → r ≡ name_at names k
 
 -- r is the call's name where the calls' names stand in the book, and the clause's label where the labels stand in the policy
 abbrev pub HandsOut : List ℕ → List ℕ → Asked → List ℕ → List ℕ → Result (List ℕ) ℕ → Type 0

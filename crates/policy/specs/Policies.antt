@@ -2,12 +2,12 @@
 use Rattle.std.specs.Prelude.{ℕ, ◌+◌, Bool, false, not, ◌&&◌, ◌||◌, List, [], ◌∷◌, ◌++◌, is_some, Some, None, Option}
 use Rattle.book.specs.Books.{Op, or_else, marks_at, has}
 use Rattle.policy.specs.Coverage.{Gr, applies_to, flags}
-use Rattle.policy.specs.declared.tables.Action.{Action}
-use Rattle.policy.specs.declared.tables.Member.{Member}
-use Rattle.policy.specs.declared.tables.Target.{Target}
-use Rattle.policy.specs.declared.tables.Term.TheVariants.{Number, Field, Cell}
-use Rattle.policy.specs.declared.tables.Term.{Term}
-use Rattle.policy.specs.declared.tables.When.{When}
+use Rattle.policy.specs.declared.table.Action.{Action}
+use Rattle.policy.specs.declared.table.Member.{Member}
+use Rattle.policy.specs.declared.table.Target.{Target}
+use Rattle.policy.specs.declared.table.Term.TheVariants.{Number, Field, Cell}
+use Rattle.policy.specs.declared.table.Term.{Term}
+use Rattle.policy.specs.declared.table.When.{When}
 use Rattle.tables.specs.Lists.{last_of, in_last}
 use Rattle.tables.specs.declared.name.Name.{Name}
 

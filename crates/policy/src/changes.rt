@@ -6,7 +6,7 @@ ghost use Rattle.policy.specs.Policies.{cs_label, unfinished, joining, guarded, 
 ghost use Rattle.std.specs.Prelude.{◌≡◌, false, [], ◌∷◌, ◌++◌, map, if◌then◌else◌, Some};
 ghost use Rattle.tables.specs.Lists.{last_of};
 
-use crate::tables::{Action, Clause, Group, Member, Table, Target, When};
+use crate::table::{Action, Clause, Group, Member, Table, Target, When};
 use tables::lookup::find;
 use tables::name::Name;
 

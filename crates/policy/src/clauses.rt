@@ -2,8 +2,8 @@
 ghost use Rattle.policy.specs.Meaning.{cs_of, cs_place};
 ghost use Rattle.std.specs.Prelude.{◌≡◌, false, [], None, slice_index_or};
 
-use crate::tables::{Action, Clause, Comparison, Target, Term, When};
-use book::tables::OPERATIONS;
+use crate::table::{Action, Clause, Comparison, Target, Term, When};
+use book::table::OPERATIONS;
 use tables::lookup::Named;
 use tables::name::Name;
 use tables::rows::Rows;

@@ -6,8 +6,8 @@ ghost use Rattle.policy.specs.Policies.{new_gr};
 ghost use Rattle.policy.specs.Walks.{Complete, Grown};
 ghost use Rattle.std.specs.Prelude.{◌≡◌, [], ◌∷◌};
 
-use crate::tables::{GROUPS, Group, Member, Table, Target};
-use book::tables::OPERATIONS;
+use crate::table::{GROUPS, Group, Member, Table, Target};
+use book::table::OPERATIONS;
 use tables::rows::Rows;
 
 impl Group {

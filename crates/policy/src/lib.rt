@@ -7,4 +7,4 @@ pub mod clauses;
 pub mod groups;
 pub mod naming;
 pub mod questions;
-pub mod tables;
+pub mod table;

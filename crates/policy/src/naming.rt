@@ -4,7 +4,7 @@ ghost use Rattle.policy.specs.Meaning.{label_places};
 ghost use Rattle.policy.specs.Naming.{naming_number, handed, eight_at, name_of, HandsOut};
 ghost use Rattle.std.specs.Prelude.{◌≡◌};
 
-use crate::tables::Table;
+use crate::table::Table;
 
 // What is to be named: a call of the book, or a clause of the policy.
 #[derive(Clone, Copy)]

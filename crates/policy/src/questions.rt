@@ -8,9 +8,9 @@ ghost use Rattle.std.specs.Option.{option_map};
 ghost use Rattle.std.specs.List.{slice_get};
 ghost use Rattle.tables.specs.Lists.{last_of};
 
-use crate::tables::{Clause, Group, Table, Target, Term};
+use crate::table::{Clause, Group, Table, Target, Term};
 use book::marks::has;
-use book::tables::{Book, OPERATIONS};
+use book::table::{Book, OPERATIONS};
 use tables::name::Name;
 use tables::rows::Rows;
 

@@ -3,7 +3,7 @@ use Rattle.std.proofs.Common.{◌≡◌, ℕ, suc, ◌/◌, ◌≤◌, Bool, tru
 use Rattle.format.proofs.Bytes.{gets, enough, framed, whole, got, behind}
 use Rattle.format.specs.Bytes.{Bytes, byte_at, size_at, cut_off}
 use Rattle.policy.specs.Policies.{Po}
-use Rattle.policy.specs.declared.tables.Write.TheVariants.{Set, Add, Take}
+use Rattle.policy.specs.declared.table.Write.TheVariants.{Set, Add, Take}
 use Rattle.policy_file.proofs.Numbers.{number_back, bytes_back}
 use Rattle.policy_file.specs.Commands.{number_at, term_at, label_at, command_at, unknown}
 use Rattle.policy_file.specs.Law.{bytes4, term_bytes, bytes_of}

@@ -4,19 +4,19 @@ use Rattle.book.specs.Books.{Op, Bk, full}
 use Rattle.book_file.proofs.Ends.{filled_push, at_last, in_last_is}
 use Rattle.policy.specs.Coverage.{Gr}
 use Rattle.policy.specs.Policies.{Cs, Po, joining, in_last_cs, pending, unfinished}
-use Rattle.policy.specs.declared.tables.Action.{Action}
-use Rattle.policy.specs.declared.tables.Member.TheVariants.{Has, Nest}
-use Rattle.policy.specs.declared.tables.Member.{Member}
-use Rattle.policy.specs.declared.tables.Target.{Target}
-use Rattle.policy.specs.declared.tables.When.{When}
-use Rattle.policy.specs.declared.tables.Write.{Write as Change}
+use Rattle.policy.specs.declared.table.Action.{Action}
+use Rattle.policy.specs.declared.table.Member.TheVariants.{Has, Nest}
+use Rattle.policy.specs.declared.table.Member.{Member}
+use Rattle.policy.specs.declared.table.Target.{Target}
+use Rattle.policy.specs.declared.table.When.{When}
+use Rattle.policy.specs.declared.table.Write.{Write as Change}
 use Rattle.policy_file.specs.Changes.{obey}
 use Rattle.policy_file.specs.Law.{as_member}
 use Rattle.policy_file.specs.Tests.{misplaced, crowded, outside, undefined, taken, lacking, command_tests, lacks_in}
 use Rattle.policy_file.specs.declared.commands.Command.TheVariants.{When as WHEN, Write as WRITE}
 use Rattle.policy_file.specs.declared.commands.Command.{Command}
 use Rattle.policy_file.specs.declared.commands.RawTerm.{RawTerm}
-use Rattle.std.specs.List.{AllByRecursion as All}
+use Rattle.std.specs.List.{AllByRecursion}
 use Rattle.tables.specs.declared.name.Name.{Name}
 
 abbrev pub policy : List ℕ → List Gr → List Cs → Po
@@ -27,7 +27,7 @@ clause n t fs ws a = record { label = n; target = t; covers = fs; whens = ws; ac
 
 -- no test speaks against the command
 abbrev pub Clear : Bk → Po → Command → Type 0
-Clear b p c = All (λ (t : Po → Command → Bool). t p c ≡ false) (command_tests b)
+Clear b p c = AllByRecursion (λ (t : Po → Command → Bool). t p c ≡ false) (command_tests b)
 
 -- the same test by test
 pub record Fits (b : Bk) (p : Po) (c : Command) : Type 0 where

@@ -7,16 +7,16 @@ use Rattle.book_file.proofs.Parts.{all_mid, all_swap, apart_push, full_less, nam
 use Rattle.book_file.specs.Law.{Apart, Proper}
 use Rattle.policy.specs.Coverage.{Gr, Applies}
 use Rattle.policy.specs.Policies.{Cs, Po, new_gr, new_cs, cs_label, joining, guarded, acting, unfinished, lacks}
-use Rattle.policy.specs.declared.tables.Action.TheVariants.{Violate, Write}
-use Rattle.policy.specs.declared.tables.Action.{Action}
-use Rattle.policy.specs.declared.tables.Comparison.{Comparison}
-use Rattle.policy.specs.declared.tables.Member.TheVariants.{Has, Nest}
-use Rattle.policy.specs.declared.tables.Member.{Member}
-use Rattle.policy.specs.declared.tables.Target.TheVariants.{Operation, Group}
-use Rattle.policy.specs.declared.tables.Target.{Target}
-use Rattle.policy.specs.declared.tables.Term.{Term}
-use Rattle.policy.specs.declared.tables.When.{When}
-use Rattle.policy.specs.declared.tables.Write.{Write as Change}
+use Rattle.policy.specs.declared.table.Action.TheVariants.{Violate, Write}
+use Rattle.policy.specs.declared.table.Action.{Action}
+use Rattle.policy.specs.declared.table.Comparison.{Comparison}
+use Rattle.policy.specs.declared.table.Member.TheVariants.{Has, Nest}
+use Rattle.policy.specs.declared.table.Member.{Member}
+use Rattle.policy.specs.declared.table.Target.TheVariants.{Operation, Group}
+use Rattle.policy.specs.declared.table.Target.{Target}
+use Rattle.policy.specs.declared.table.Term.{Term}
+use Rattle.policy.specs.declared.table.When.{When}
+use Rattle.policy.specs.declared.table.Write.{Write as Change}
 use Rattle.policy_file.proofs.Bytes.{Sized}
 use Rattle.policy_file.proofs.Ends.{policy, clause, Fits, member_crowded, member_obey, last_unfinished, when_crowded, when_lacking, write_lacking, in_clause}
 use Rattle.policy_file.proofs.Parts.{numbered_push, numbered_swap, before_push, all_acted, there, below, comparison_is, Basic, term_is, applies_defined, term_lawful}
@@ -30,7 +30,7 @@ use Rattle.policy_file.specs.declared.commands.RawTerm.{RawTerm}
 use Rattle.std.proofs.ByRecursion.{All-push}
 use Rattle.std.proofs.lemmas.List.{length_push, flat_map_more, map_push}
 use Rattle.std.proofs.lemmas.Bool.{or_parts, false≢true}
-use Rattle.std.specs.List.{flat_map, AllByRecursion as All}
+use Rattle.std.specs.List.{flat_map, AllByRecursion}
 use Rattle.tables.specs.declared.name.Name.{Name}
 
 -- The commands of a policy that has grown by one command.
@@ -100,7 +100,7 @@ module _ (b : Bk) (short : length b.operations ≤ 64) where
   clause_begun : (vs : List ℕ) (gs : List Gr) (cs : List Cs) (t : Target) (n : Name) → Proper n.letters → LawfulTarget ops gs t → unfinished (policy vs gs cs) ≡ false → full 256 cs ≡ false → named (map cs_label cs) n.letters ≡ false → SoFar b (policy vs gs cs) → Kept (policy vs gs cs) (as_target t n) (policy vs gs (cs ++ new_cs gs t n ∷ []))
   clause_begun vs gs cs t n w d u f q l =
       let c = new_cs gs t n in (
-        record { few_cells = l.few_cells; few_groups = l.few_groups; few_clauses = omega (arith, length_push cs c, full_less 256 cs f); each_group = l.each_group; labels_apart = subst Apart (sym (map_push cs_label cs c)) (apart_push (map cs_label cs) (cs_label c) l.labels_apart (named_out (map cs_label cs) (cs_label c) q)); each_clause = All-push (LawfulCs ops vs gs) cs c l.each_clause (record { label = w; target = d; covers = refl; few_whens = omega arith; whens = tt; action = tt }); acted_before = subst (All Acted) (sym (before_push cs c)) (all_acted cs l.acted_before u) },
+        record { few_cells = l.few_cells; few_groups = l.few_groups; few_clauses = omega (arith, length_push cs c, full_less 256 cs f); each_group = l.each_group; labels_apart = subst Apart (sym (map_push cs_label cs c)) (apart_push (map cs_label cs) (cs_label c) l.labels_apart (named_out (map cs_label cs) (cs_label c) q)); each_clause = All-push (LawfulCs ops vs gs) cs c l.each_clause (record { label = w; target = d; covers = refl; few_whens = omega arith; whens = tt; action = tt }); acted_before = subst (AllByRecursion Acted) (sym (before_push cs c)) (all_acted cs l.acted_before u) },
         clauses_grown vs gs cs (cs ++ c ∷ []) (as_target t n) (sym (flat_map_more of_cs [] cs c)),
       )
 
@@ -112,7 +112,7 @@ module _ (b : Bk) (short : length b.operations ≤ 64) where
 
   clause_swapped : (vs : List ℕ) (gs : List Gr) (cs : List Cs) (c d : Cs) (x : Command) → cs_label c ≡ cs_label d → of_cs d ≡ of_cs c ++ x ∷ [] → (LawfulCs ops vs gs c → LawfulCs ops vs gs d) → SoFar b (policy vs gs (cs ++ c ∷ [])) → Kept (policy vs gs (cs ++ c ∷ [])) x (policy vs gs (cs ++ d ∷ []))
   clause_swapped vs gs cs c d x e i f l = (
-    record { few_cells = l.few_cells; few_groups = l.few_groups; few_clauses = omega (arith, length_push cs c, length_push cs d, l.few_clauses); each_group = l.each_group; labels_apart = subst Apart (map_push cs_label cs c ∙ ap (λ (n : List ℕ). map cs_label cs ++ n ∷ []) e ∙ sym (map_push cs_label cs d)) l.labels_apart; each_clause = all_swap (LawfulCs ops vs gs) cs c d f l.each_clause; acted_before = subst (All Acted) (before_push cs c ∙ sym (before_push cs d)) l.acted_before },
+    record { few_cells = l.few_cells; few_groups = l.few_groups; few_clauses = omega (arith, length_push cs c, length_push cs d, l.few_clauses); each_group = l.each_group; labels_apart = subst Apart (map_push cs_label cs c ∙ ap (λ (n : List ℕ). map cs_label cs ++ n ∷ []) e ∙ sym (map_push cs_label cs d)) l.labels_apart; each_clause = all_swap (LawfulCs ops vs gs) cs c d f l.each_clause; acted_before = subst (AllByRecursion Acted) (before_push cs c ∙ sym (before_push cs d)) l.acted_before },
     clauses_grown vs gs (cs ++ c ∷ []) (cs ++ d ∷ []) x (joined_grown of_cs cs c d x i),
   )
 

@@ -2,7 +2,7 @@
 use Rattle.std.proofs.Common.{◌≡◌, ℕ, ◌<◌, ◌≤◌, List, ◌++◌, length, drop, Ok, Result, sym, refl, ap, ◌∙◌, subst, arith}
 use Rattle.book.specs.Books.{Bk}
 use Rattle.book.specs.Meaning.{book_of, op_of}
-use Rattle.book.specs.declared.tables.Book.{Book}
+use Rattle.book.specs.declared.table.Book.{Book}
 use Rattle.format.proofs.Bytes.{enough}
 use Rattle.format.proofs.Runs.{runs}
 use Rattle.format.proofs.Tests.{passes}

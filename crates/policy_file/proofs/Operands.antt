@@ -1,8 +1,8 @@
 -- A command as its first byte and the bytes behind it.
 use Rattle.std.proofs.Common.{◌≡◌, ℕ, suc, ◌-◌, ◌/◌, ◌≤◌, Bool, cond, not, List, [], ◌∷◌, length, get_or, take, drop, Ok, Err, Result, sym, refl, ap, ◌∙◌, not-suc-le-zero, arith, le-leb}
 use Rattle.format.specs.Bytes.{cut_off}
-use Rattle.policy.specs.declared.tables.Write.TheVariants.{Set, Add, Take}
-use Rattle.policy.specs.declared.tables.Write.{Write as Change}
+use Rattle.policy.specs.declared.table.Write.TheVariants.{Set, Add, Take}
+use Rattle.policy.specs.declared.table.Write.{Write as Change}
 use Rattle.policy_file.specs.Commands.{term_at, command_of}
 use Rattle.policy_file.specs.Law.{change_byte}
 use Rattle.policy_file.specs.declared.commands.Command.TheVariants.{Write}

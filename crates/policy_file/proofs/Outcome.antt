@@ -2,14 +2,14 @@
 use Rattle.std.proofs.Common.{◌≡◌, ℕ, List, [], map, Ok, Err, Result, sym, ap, ◌∙◌, subst}
 use Rattle.book.specs.Books.{empty_book}
 use Rattle.book.specs.Meaning.{book_of, operation_places, call_places}
-use Rattle.book.specs.declared.tables.Book.{Book}
+use Rattle.book.specs.declared.table.Book.{Book}
 use Rattle.format.proofs.Law.{accepts, refuses, one_writing}
 use Rattle.format.specs.Bytes.{Bytes}
 use Rattle.format.specs.Format.{Format, read_file, answer_of, whole_left, refused_at, name_places, Accepts, Refuses, OneWriting, Stand}
 use Rattle.format.specs.Refusals.{At}
 use Rattle.policy.specs.Meaning.{Tb, policy_of, table_of, label_places}
 use Rattle.policy.specs.Policies.{cs_label, empty_policy}
-use Rattle.policy.specs.declared.tables.Table.{Table}
+use Rattle.policy.specs.declared.table.Table.{Table}
 use Rattle.policy_file.proofs.Flags.{flags_left}
 use Rattle.policy_file.proofs.Law.{holds, short_book}
 use Rattle.policy_file.proofs.Places.{labels_stand}

@@ -8,20 +8,20 @@ use Rattle.policy.proofs.Coverage.{applies_decides, flagged_has, has_flagged}
 use Rattle.policy.specs.Coverage.Covers.{by_has, by_nest}
 use Rattle.policy.specs.Coverage.{Gr, members_at, Covers, Applies, applies_to, flags}
 use Rattle.policy.specs.Policies.{Cs, pending, lacked_from, lacks}
-use Rattle.policy.specs.declared.tables.Comparison.TheVariants.{Equal, Unequal, Less, AtMost}
-use Rattle.policy.specs.declared.tables.Comparison.{Comparison}
-use Rattle.policy.specs.declared.tables.Member.TheVariants.{Has}
-use Rattle.policy.specs.declared.tables.Target.TheVariants.{Operation, Group}
-use Rattle.policy.specs.declared.tables.Target.{Target}
-use Rattle.policy.specs.declared.tables.Term.TheVariants.{Number, Field, Cell}
-use Rattle.policy.specs.declared.tables.Term.{Term}
+use Rattle.policy.specs.declared.table.Comparison.TheVariants.{Equal, Unequal, Less, AtMost}
+use Rattle.policy.specs.declared.table.Comparison.{Comparison}
+use Rattle.policy.specs.declared.table.Member.TheVariants.{Has}
+use Rattle.policy.specs.declared.table.Target.TheVariants.{Operation, Group}
+use Rattle.policy.specs.declared.table.Target.{Target}
+use Rattle.policy.specs.declared.table.Term.TheVariants.{Number, Field, Cell}
+use Rattle.policy.specs.declared.table.Term.{Term}
 use Rattle.policy_file.specs.Law.{Numbered, before_last, LawfulMember, LawfulGr, LawfulTarget, LawfulTerm, Acted, raw_of, comparison_number}
 use Rattle.policy_file.specs.Terms.{comparison_of, is_mark, known, term_of}
 use Rattle.policy_file.specs.Tests.{absent}
 use Rattle.policy_file.specs.declared.commands.RawTerm.{RawTerm}
 use Rattle.std.proofs.ByRecursion.{all-has}
 use Rattle.std.proofs.lemmas.Bool.{or_parts, or_from, and_cases, not_from_true, false≢true}
-use Rattle.std.specs.List.{ContainsAt as Among, AllByRecursion as All, slice_get}
+use Rattle.std.specs.List.{ContainsAt as Among, AllByRecursion, slice_get}
 use Rattle.tables.specs.Lists.{last_of}
 use borrow.Author.Tests.{not-false}
 
@@ -53,18 +53,18 @@ before_push (y ∷ []) x = refl
 before_push (y ∷ (z ∷ zs)) x = ap (λ l. y ∷ l) (before_push (z ∷ zs) x)
 
 -- what holds of all but the last holds of those before one
-pub before_front : {X : Type 0} (P : X → Type 0) (xs : List X) (y : X) (ys : List X) → All P (before_last (xs ++ y ∷ ys)) → All P xs
+pub before_front : {X : Type 0} (P : X → Type 0) (xs : List X) (y : X) (ys : List X) → AllByRecursion P (before_last (xs ++ y ∷ ys)) → AllByRecursion P xs
 before_front P [] y ys h = tt
 before_front P (x ∷ []) y ys h = (h.0, tt)
 before_front P (x ∷ (z ∷ zs)) y ys h = (h.0, before_front P (z ∷ zs) y ys h.1)
 
 -- the last clause is not pending: then none is
-pub all_acted : (cs : List Cs) → All Acted (before_last cs) → or_else false pending (last_of cs) ≡ false → All Acted cs
+pub all_acted : (cs : List Cs) → AllByRecursion Acted (before_last cs) → or_else false pending (last_of cs) ≡ false → AllByRecursion Acted cs
 all_acted [] h e = tt
 all_acted (c ∷ []) h e = (not-false (is_some c.action) e, tt)
 all_acted (c ∷ (d ∷ ds)) h e = (h.0, all_acted (d ∷ ds) h.1 e)
 
-pub none_pending : (cs : List Cs) → All Acted cs → or_else false pending (last_of cs) ≡ false
+pub none_pending : (cs : List Cs) → AllByRecursion Acted cs → or_else false pending (last_of cs) ≡ false
 none_pending [] h = refl
 none_pending (c ∷ []) h = not_from_true (is_some c.action) h.0
 none_pending (c ∷ (d ∷ ds)) h = none_pending (d ∷ ds) h.1

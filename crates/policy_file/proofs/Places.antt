@@ -6,13 +6,13 @@ use Rattle.format.proofs.Places.{joined_append, places_append, Quiet, quiet_appe
 use Rattle.format.specs.Bytes.{Bytes}
 use Rattle.format.specs.Format.{places_in, name_places, written, read_file, whole_left, Stand}
 use Rattle.policy.specs.Policies.{Po, cs_label}
-use Rattle.policy.specs.declared.tables.Action.TheVariants.{Violate, Write}
-use Rattle.policy.specs.declared.tables.Action.{Action}
-use Rattle.policy.specs.declared.tables.Member.TheVariants.{Has, Nest}
-use Rattle.policy.specs.declared.tables.Member.{Member}
-use Rattle.policy.specs.declared.tables.Target.TheVariants.{Operation, Group}
-use Rattle.policy.specs.declared.tables.Target.{Target}
-use Rattle.policy.specs.declared.tables.When.{When}
+use Rattle.policy.specs.declared.table.Action.TheVariants.{Violate, Write}
+use Rattle.policy.specs.declared.table.Action.{Action}
+use Rattle.policy.specs.declared.table.Member.TheVariants.{Has, Nest}
+use Rattle.policy.specs.declared.table.Member.{Member}
+use Rattle.policy.specs.declared.table.Target.TheVariants.{Operation, Group}
+use Rattle.policy.specs.declared.table.Target.{Target}
+use Rattle.policy.specs.declared.table.When.{When}
 use Rattle.policy_file.proofs.Law.{holds}
 use Rattle.policy_file.specs.Law.{bytes_of, as_cell, as_member, as_when, as_action, of_gr, of_cs, policy_format, label_name}
 use Rattle.policy_file.specs.declared.commands.Command.{Command}

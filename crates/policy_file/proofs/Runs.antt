@@ -7,15 +7,15 @@ use Rattle.book_file.specs.Law.{Apart}
 use Rattle.format.proofs.Runs.{Ran, ran_append, ran_joined, ran_map}
 use Rattle.policy.specs.Coverage.{Gr, applies_to, flags}
 use Rattle.policy.specs.Policies.{Cs, Po, empty_policy, cs_label, guarded, acting, with_clause, lacks}
-use Rattle.policy.specs.declared.tables.Action.TheVariants.{Violate, Write}
-use Rattle.policy.specs.declared.tables.Action.{Action}
-use Rattle.policy.specs.declared.tables.Comparison.{Comparison}
-use Rattle.policy.specs.declared.tables.Member.TheVariants.{Has, Nest}
-use Rattle.policy.specs.declared.tables.Member.{Member}
-use Rattle.policy.specs.declared.tables.Target.TheVariants.{Operation, Group}
-use Rattle.policy.specs.declared.tables.Target.{Target}
-use Rattle.policy.specs.declared.tables.Term.{Term}
-use Rattle.policy.specs.declared.tables.When.{When}
+use Rattle.policy.specs.declared.table.Action.TheVariants.{Violate, Write}
+use Rattle.policy.specs.declared.table.Action.{Action}
+use Rattle.policy.specs.declared.table.Comparison.{Comparison}
+use Rattle.policy.specs.declared.table.Member.TheVariants.{Has, Nest}
+use Rattle.policy.specs.declared.table.Member.{Member}
+use Rattle.policy.specs.declared.table.Target.TheVariants.{Operation, Group}
+use Rattle.policy.specs.declared.table.Target.{Target}
+use Rattle.policy.specs.declared.table.Term.{Term}
+use Rattle.policy.specs.declared.table.When.{When}
 use Rattle.policy_file.proofs.Bytes.{Sized}
 use Rattle.policy_file.proofs.Ends.{policy, clause, Fits, member_misplaced, member_crowded, member_obey, last_unfinished, when_crowded, when_lacking, write_lacking, in_clause}
 use Rattle.policy_file.proofs.Parts.{numbered_mid, before_front, none_pending, not_absent, not_below, comparison_back, term_known, term_back, lawful_basic, lawful_lacks}
@@ -26,7 +26,7 @@ use Rattle.policy_file.specs.Tests.{lacks_in}
 use Rattle.policy_file.specs.declared.commands.Command.{Command}
 use Rattle.std.proofs.lemmas.List.{length_push}
 use Rattle.std.proofs.lemmas.Bool.{or_from}
-use Rattle.std.specs.List.{flat_map, AllByRecursion as All}
+use Rattle.std.specs.List.{flat_map, AllByRecursion}
 use Rattle.tables.specs.declared.name.Name.{Name}
 
 module _ (b : Bk) where
@@ -59,7 +59,7 @@ module _ (b : Bk) where
     member_good ds (Nest k) l h = (tt, record { placed = member_misplaced vs gs (group ds) (Nest k); room = member_crowded vs gs (group ds) (Nest k) ∙ less_full 16 ds l; inside = refl; defined = not_below (k + 1) (length (gs ++ group ds ∷ [])) (omega (arith, h, length_push gs (group ds))); fresh = refl; met = refl })
 
     abbrev Members : List Member → Type 0
-    Members ms = (length ms ≤ 16) × All (LawfulMember ops (0 + length gs)) ms
+    Members ms = (length ms ≤ 16) × AllByRecursion (LawfulMember ops (0 + length gs)) ms
 
     members_ran : (ms : List Member) → Members ms → Made (map as_member ms) (ending_group []) (ending_group ms)
     members_ran = ran_map obey Good as_member ending_group Members (λ ds m ms h.
@@ -93,7 +93,7 @@ module _ (b : Bk) where
     term_met ws a x h = ap (or_else false (lacks ops (flags (applies_to gs t)))) (found x h) ∙ lawful_lacks ops vs gs t x h
 
     abbrev Whens : List When → Type 0
-    Whens ws = (length ws ≤ 3) × All (LawfulWhen ops vs gs t) ws
+    Whens ws = (length ws ≤ 3) × AllByRecursion (LawfulWhen ops vs gs t) ws
 
     whens_ran : (ws : List When) → Whens ws → Made (map as_when ws) (ending [] None) (ending ws None)
     whens_ran = ran_map obey Good as_when (λ ds. ending ds None) Whens (λ ds w ws h.
@@ -143,7 +143,7 @@ module _ (b : Bk) where
   -- Clauses.
 
   abbrev Clauses : List ℕ → List Gr → List Cs → Type 0
-  Clauses vs gs cs = (length cs ≤ 256) × Apart (map cs_label cs) × All (LawfulCs ops vs gs) cs × All Acted (before_last cs)
+  Clauses vs gs cs = (length cs ≤ 256) × Apart (map cs_label cs) × AllByRecursion (LawfulCs ops vs gs) cs × AllByRecursion Acted (before_last cs)
 
   target_good : (vs : List ℕ) (gs : List Gr) (ds : List Cs) (c : Cs) (cs : List Cs) (t : Target) → LawfulTarget ops gs t → Clauses vs gs (ds ++ c ∷ cs) → Good (policy vs gs ds) (as_target t c.label)
   target_good vs gs ds c cs (Operation o) d h = let k = all_mid (LawfulCs ops vs gs) ds c cs h.2 in (k.label.eight, record { placed = none_pending ds (before_front Acted ds c cs h.3); room = less_full 256 ds (shorter_front 256 ds c cs h.0); inside = is_name (cs_label c) k.label; defined = not_absent ops o d; fresh = out_named (map cs_label ds) (cs_label c) (unlike cs_label ds c cs h.1); met = refl })

@@ -5,16 +5,16 @@ use Rattle.format.proofs.Sizes.{size, size_append, size_joined, size_map}
 use Rattle.format.specs.Format.{written}
 use Rattle.policy.specs.Coverage.{Gr}
 use Rattle.policy.specs.Policies.{Cs, Po}
-use Rattle.policy.specs.declared.tables.Action.TheVariants.{Violate, Write}
-use Rattle.policy.specs.declared.tables.Action.{Action}
-use Rattle.policy.specs.declared.tables.Member.TheVariants.{Has, Nest}
-use Rattle.policy.specs.declared.tables.Member.{Member}
-use Rattle.policy.specs.declared.tables.Target.TheVariants.{Operation, Group}
-use Rattle.policy.specs.declared.tables.Target.{Target}
+use Rattle.policy.specs.declared.table.Action.TheVariants.{Violate, Write}
+use Rattle.policy.specs.declared.table.Action.{Action}
+use Rattle.policy.specs.declared.table.Member.TheVariants.{Has, Nest}
+use Rattle.policy.specs.declared.table.Member.{Member}
+use Rattle.policy.specs.declared.table.Target.TheVariants.{Operation, Group}
+use Rattle.policy.specs.declared.table.Target.{Target}
 use Rattle.policy_file.specs.Law.{bytes_of, as_cell, as_member, as_target, as_when, as_action, of_gr, of_cs, policy_format, Numbered, LawfulGr, LawfulCs, SoFar}
 use Rattle.std.proofs.ByRecursion.{All-weaker}
 use Rattle.std.proofs.lemmas.List.{length-append}
-use Rattle.std.specs.List.{flat_map, AllByRecursion as All}
+use Rattle.std.specs.List.{flat_map, AllByRecursion}
 use Rattle.tables.specs.declared.name.Name.{Name}
 
 size_member : (m : Member) → length (bytes_of (as_member m)) ≡ 2
@@ -33,7 +33,7 @@ size_action (Some (Write w k t)) = omega arith
 size_gr : (ops : List Op) (k : ℕ) (g : Gr) → LawfulGr ops k g → size bytes_of (of_gr g) ≤ 33
 size_gr ops k g h = omega (arith, size_map bytes_of as_member 2 size_member g.members, h.few_members)
 
-sizes_gr : (ops : List Op) (k : ℕ) (gs : List Gr) → Numbered (LawfulGr ops) k gs → All (λ g. size bytes_of (of_gr g) ≤ 33) gs
+sizes_gr : (ops : List Op) (k : ℕ) (gs : List Gr) → Numbered (LawfulGr ops) k gs → AllByRecursion (λ g. size bytes_of (of_gr g) ≤ 33) gs
 sizes_gr ops k [] h = tt
 sizes_gr ops k (g ∷ gs) h = (size_gr ops k g h.0, sizes_gr ops _ gs h.1)
 

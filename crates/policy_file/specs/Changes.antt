@@ -1,8 +1,8 @@
 -- What each command makes of a policy.
 use Rattle.policy.specs.Policies.{Po, joining, guarded, acting, with_cell, with_group, with_clause, in_last_gr, in_last_cs}
-use Rattle.policy.specs.declared.tables.Action.TheVariants.{Violate}
-use Rattle.policy.specs.declared.tables.Member.TheVariants.{Has, Nest}
-use Rattle.policy.specs.declared.tables.Target.TheVariants.{Operation, Group}
+use Rattle.policy.specs.declared.table.Action.TheVariants.{Violate}
+use Rattle.policy.specs.declared.table.Member.TheVariants.{Has, Nest}
+use Rattle.policy.specs.declared.table.Target.TheVariants.{Operation, Group}
 use Rattle.policy_file.specs.Terms.{term_of, when_of, write_with}
 use Rattle.policy_file.specs.declared.commands.Command.TheVariants.{Cell as CELL, Group as GROUP, Has as HAS, Nest as NEST, On as ON, OnGroup as ONGROUP, When as WHEN, Violate as VIOLATE, Write as WRITE}
 use Rattle.policy_file.specs.declared.commands.Command.{Command}

@@ -1,7 +1,7 @@
 -- One command of a policy at the front of some bytes.
 use Rattle.std.specs.Prelude.{ℕ, ◌+◌, ◌*◌, Bool, false, cond, not, List, [], ◌∷◌, drop, Ok, Err, Result, ◌==◌, slice_index}
 use Rattle.format.specs.Bytes.{byte_at, size_at, cut_off}
-use Rattle.policy.specs.declared.tables.Write.TheVariants.{Set, Add, Take}
+use Rattle.policy.specs.declared.table.Write.TheVariants.{Set, Add, Take}
 use Rattle.policy_file.specs.declared.commands.Command.TheVariants.{Cell, Group, Has, Nest, On, OnGroup, When, Violate, Write}
 use Rattle.policy_file.specs.declared.commands.Command.{Command}
 use Rattle.policy_file.specs.declared.commands.RawTerm.{RawTerm}

@@ -6,26 +6,26 @@ use Rattle.format.specs.Bytes.{size_at}
 use Rattle.format.specs.Format.{Format}
 use Rattle.policy.specs.Coverage.{Gr, Applies, applies_to, flags}
 use Rattle.policy.specs.Policies.{Cs, Po, empty_policy, cs_label, unfinished}
-use Rattle.policy.specs.declared.tables.Action.TheVariants.{Violate, Write}
-use Rattle.policy.specs.declared.tables.Action.{Action}
-use Rattle.policy.specs.declared.tables.Comparison.TheVariants.{Equal, Unequal, Less, AtMost}
-use Rattle.policy.specs.declared.tables.Comparison.{Comparison}
-use Rattle.policy.specs.declared.tables.Member.TheVariants.{Has, Nest}
-use Rattle.policy.specs.declared.tables.Member.{Member}
-use Rattle.policy.specs.declared.tables.Target.TheVariants.{Operation, Group}
-use Rattle.policy.specs.declared.tables.Target.{Target}
-use Rattle.policy.specs.declared.tables.Term.TheVariants.{Number, Field, Cell}
-use Rattle.policy.specs.declared.tables.Term.{Term}
-use Rattle.policy.specs.declared.tables.When.{When}
-use Rattle.policy.specs.declared.tables.Write.TheVariants.{Set, Add, Take}
-use Rattle.policy.specs.declared.tables.Write.{Write as Change}
+use Rattle.policy.specs.declared.table.Action.TheVariants.{Violate, Write}
+use Rattle.policy.specs.declared.table.Action.{Action}
+use Rattle.policy.specs.declared.table.Comparison.TheVariants.{Equal, Unequal, Less, AtMost}
+use Rattle.policy.specs.declared.table.Comparison.{Comparison}
+use Rattle.policy.specs.declared.table.Member.TheVariants.{Has, Nest}
+use Rattle.policy.specs.declared.table.Member.{Member}
+use Rattle.policy.specs.declared.table.Target.TheVariants.{Operation, Group}
+use Rattle.policy.specs.declared.table.Target.{Target}
+use Rattle.policy.specs.declared.table.Term.TheVariants.{Number, Field, Cell}
+use Rattle.policy.specs.declared.table.Term.{Term}
+use Rattle.policy.specs.declared.table.When.{When}
+use Rattle.policy.specs.declared.table.Write.TheVariants.{Set, Add, Take}
+use Rattle.policy.specs.declared.table.Write.{Write as Change}
 use Rattle.policy_file.specs.Changes.{obey}
 use Rattle.policy_file.specs.Commands.{command_at}
 use Rattle.policy_file.specs.Tests.{tests}
 use Rattle.policy_file.specs.declared.commands.Command.TheVariants.{Cell as CELL, Group as GROUP, Has as HAS, Nest as NEST, On as ON, OnGroup as ONGROUP, When as WHEN, Violate as VIOLATE, Write as WRITE}
 use Rattle.policy_file.specs.declared.commands.Command.{Command}
 use Rattle.policy_file.specs.declared.commands.RawTerm.{RawTerm}
-use Rattle.std.specs.List.{flat_map, ContainsAt as Among, AllByRecursion as All}
+use Rattle.std.specs.List.{flat_map, ContainsAt as Among, AllByRecursion}
 use Rattle.tables.specs.declared.name.Name.{Name}
 
 -- The writing.
@@ -126,7 +126,7 @@ LawfulMember ops k (Nest h) = h < k
 -- a lawful group of the number k
 pub record LawfulGr (ops : List Op) (k : ℕ) (g : Gr) : Type 0 where
   pub few_members : length g.members ≤ 16
-  pub members : All (LawfulMember ops k) g.members
+  pub members : AllByRecursion (LawfulMember ops k) g.members
 
 -- a clause is on an operation of the book or on a group of the policy
 abbrev pub LawfulTarget : List Op → List Gr → Target → Type 0
@@ -156,7 +156,7 @@ pub record LawfulCs (ops : List Op) (cells : List ℕ) (gs : List Gr) (c : Cs) :
   pub target : LawfulTarget ops gs c.target
   pub covers : c.covers ≡ flags (applies_to gs c.target)
   pub few_whens : length c.whens ≤ 3
-  pub whens : All (LawfulWhen ops cells gs c.target) c.whens
+  pub whens : AllByRecursion (LawfulWhen ops cells gs c.target) c.whens
   pub action : LawfulAction ops cells gs c.target c.action
 
 -- the clause has its action
@@ -170,13 +170,13 @@ pub record SoFar (b : Bk) (p : Po) : Type 0 where
   pub few_clauses : length p.clauses ≤ 256
   pub each_group : Numbered (LawfulGr b.operations) 0 p.groups
   pub labels_apart : Apart (map cs_label p.clauses)
-  pub each_clause : All (LawfulCs b.operations p.cells p.groups) p.clauses
-  pub acted_before : All Acted (before_last p.clauses)
+  pub each_clause : AllByRecursion (LawfulCs b.operations p.cells p.groups) p.clauses
+  pub acted_before : AllByRecursion Acted (before_last p.clauses)
 
 -- a lawful policy: each clause has its action
 pub record Lawful (b : Bk) (p : Po) : Type 0 where
   pub so_far : SoFar b p
-  pub acted : All Acted p.clauses
+  pub acted : AllByRecursion Acted p.clauses
 
 -- the format of policy files for a book, of at most 32,767 bytes
 abbrev pub policy_format : Bk → Format
@@ -186,7 +186,7 @@ policy_format b = record { Whole = Po; Command = Command; empty = empty_policy; 
 
 -- each clause has 64 flags, raised exactly for the operations to which it applies
 abbrev pub Flagged : Po → Type 0
-Flagged p = All (λ c. (length c.covers ≡ 64) × ((o : ℕ) → Decides (slice_index_or c.covers o false) (Applies p.groups c.target o))) p.clauses
+Flagged p = AllByRecursion (λ c. (length c.covers ≡ 64) × ((o : ℕ) → Decides (slice_index_or c.covers o false) (Applies p.groups c.target o))) p.clauses
 
 -- The places of labels.
 

@@ -1,13 +1,13 @@
 -- The comparisons and terms that operands stand for.
 use Rattle.std.specs.Prelude.{ℕ, Bool, true, false, cond, List, length, Some, None, Option, ◌==◌, nat_le, nat_lt}
-use Rattle.policy.specs.declared.tables.Action.TheVariants.{Write}
-use Rattle.policy.specs.declared.tables.Action.{Action}
-use Rattle.policy.specs.declared.tables.Comparison.TheVariants.{Equal, Unequal, Less, AtMost}
-use Rattle.policy.specs.declared.tables.Comparison.{Comparison}
-use Rattle.policy.specs.declared.tables.Term.TheVariants.{Number, Field, Cell}
-use Rattle.policy.specs.declared.tables.Term.{Term}
-use Rattle.policy.specs.declared.tables.When.{When}
-use Rattle.policy.specs.declared.tables.Write.{Write as Change}
+use Rattle.policy.specs.declared.table.Action.TheVariants.{Write}
+use Rattle.policy.specs.declared.table.Action.{Action}
+use Rattle.policy.specs.declared.table.Comparison.TheVariants.{Equal, Unequal, Less, AtMost}
+use Rattle.policy.specs.declared.table.Comparison.{Comparison}
+use Rattle.policy.specs.declared.table.Term.TheVariants.{Number, Field, Cell}
+use Rattle.policy.specs.declared.table.Term.{Term}
+use Rattle.policy.specs.declared.table.When.{When}
+use Rattle.policy.specs.declared.table.Write.{Write as Change}
 use Rattle.policy_file.specs.declared.commands.RawTerm.{RawTerm}
 
 -- the comparison that an operand of WHEN stands for, where it stands for one

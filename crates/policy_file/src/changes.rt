@@ -11,7 +11,7 @@ ghost use Rattle.policy_file.specs.declared.commands.Command.TheVariants.{Cell a
 use crate::commands::{Command, RawTerm};
 use crate::terms::comparison_of;
 use format::refusal::Refusal;
-use policy::tables::{
+use policy::table::{
     Action, CELLS, CLAUSES, GROUPS, MEMBERS, Member, Table, Target, WHENS, When, Write,
 };
 use tables::name::Name;

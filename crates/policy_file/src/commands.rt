@@ -6,7 +6,7 @@ ghost use Rattle.policy_file.specs.Law.{change_byte};
 ghost use Rattle.std.specs.Prelude.{◌≡◌, ◌∷◌, slice_index};
 
 use format::refusal::Refusal;
-use policy::tables::Write;
+use policy::table::Write;
 use tables::name::Name;
 
 // A term as a file has it: its kind and its number.

@@ -11,10 +11,10 @@ ghost use Rattle.policy_file.specs.Reading.{table_left, places_left};
 
 use crate::changes::obey;
 use crate::commands::read_command;
-use book::tables::Book;
+use book::table::Book;
 use format::files::{LONGEST, byte_count};
 use format::refusal::{Refusal, Refused};
-use policy::tables::Table;
+use policy::table::Table;
 
 // Reads the command at the front of the rest of the file, which begins at that offset, and hands
 // out what stands behind it.

@@ -4,7 +4,7 @@ ghost use Rattle.policy_file.specs.Terms.{comparison_of, known, term_of};
 ghost use Rattle.std.specs.Prelude.{◌≡◌};
 
 use crate::commands::RawTerm;
-use policy::tables::{Comparison, Table, Term};
+use policy::table::{Comparison, Table, Term};
 
 // The comparison that a number stands for.
 pub(crate) fn comparison_of(number: u8) -> Option<Comparison>

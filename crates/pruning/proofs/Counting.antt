@@ -1,6 +1,6 @@
 -- How many steps pass, one after the other.
 use Rattle.std.proofs.Common.{◌≡◌, ℕ, ◌+◌, ◌<◌, ◌≤◌, Bool, true, false, List, length, get_or, take, count_by, sym, ap, ◌∙◌, arith}
-use Rattle.book.specs.declared.tables.Call.{Call}
+use Rattle.book.specs.declared.table.Call.{Call}
 use Rattle.std.proofs.lemmas.List.{take_all}
 use Rattle.std.proofs.lemmas.List.Sums.{count_by_more_yes, count_by_more_no}
 use Rattle.tables.proofs.Long.{rows_long}

@@ -1,10 +1,10 @@
 -- The cells that are marked after the cells of some terms were.
 use Rattle.std.proofs.Common.{◌≡◌, ℕ, ◌+◌, ◌<◌, ◌≤◌, Bool, true, false, cond, ltb, ◌⊎◌, List, [], ◌∷◌, ◌++◌, length, get_or, drop, set, sym, refl, ap, ◌∙◌, subst, inl, inr, ⊎_elim, arith}
-use Rattle.policy.specs.declared.tables.Term.TheVariants.{Number, Field, Cell}
-use Rattle.policy.specs.declared.tables.Term.{Term}
+use Rattle.policy.specs.declared.table.Term.TheVariants.{Number, Field, Cell}
+use Rattle.policy.specs.declared.table.Term.{Term}
 use Rattle.policy.proofs.Among.{among_nil, among_here, among_later, among_cons}
 use Rattle.pruning.proofs.Flags.{set-flag, flag_set}
-use Rattle.policy.specs.declared.tables.When.{When}
+use Rattle.policy.specs.declared.table.When.{When}
 use Rattle.pruning.specs.Marking.{Marked, noted, noted_all}
 use Rattle.pruning.specs.Rules.{when_terms}
 use Rattle.std.proofs.lemmas.List.{length-set, at_drop_more}

@@ -2,7 +2,7 @@
 use Rattle.std.proofs.Common.{◌≡◌, ℕ, ◌+◌, ◌<◌, ◌≤◌, Bool, true, false, List, length, get_or, replicate, is_some, Some, None, Decides, Option, sym, refl, ap, ◌∙◌, subst, ⊎_elim, zero-add, arith}
 use Rattle.policy.specs.Meaning.{policy_of}
 use Rattle.policy.specs.Policies.{Cs, Po}
-use Rattle.policy.specs.declared.tables.Table.{Table}
+use Rattle.policy.specs.declared.table.Table.{Table}
 use Rattle.pruning.proofs.Firsts.{FirstAt, first_some, first_none}
 use Rattle.pruning.proofs.Flags.{none_up}
 use Rattle.policy.proofs.Few.{few_clauses, few_cells}

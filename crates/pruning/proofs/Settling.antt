@@ -2,10 +2,10 @@
 use Rattle.std.proofs.Common.{◌≡◌, ℕ, zero, suc, ◌+◌, ◌<◌, ◌≤◌, Bool, true, false, cond, not, ◌&&◌, ◌⊎◌, List, [], length, get_or, set, replicate, is_some, Some, None, Decides, Option, sym, refl, ap, ◌∙◌, subst, inl, inr, ⊎_elim, zero-add, arith}
 use Rattle.book.specs.Books.{or_else}
 use Rattle.policy.specs.Policies.{Cs, Po}
-use Rattle.policy.specs.declared.tables.Action.TheVariants.{Violate, Write}
-use Rattle.policy.specs.declared.tables.Action.{Action}
-use Rattle.policy.specs.declared.tables.Term.TheVariants.{Cell}
-use Rattle.policy.specs.declared.tables.Term.{Term}
+use Rattle.policy.specs.declared.table.Action.TheVariants.{Violate, Write}
+use Rattle.policy.specs.declared.table.Action.{Action}
+use Rattle.policy.specs.declared.table.Term.TheVariants.{Cell}
+use Rattle.policy.specs.declared.table.Term.{Term}
 use Rattle.pruning.proofs.Firsts.{FirstAt, first_some, first_none}
 use Rattle.pruning.proofs.Flags.{set-flag, flag_set, down, down_set, none_up}
 use Rattle.pruning.proofs.Noting.{noted_all_length, noted_back, noted_kept, noted_new}

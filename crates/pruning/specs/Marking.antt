@@ -2,10 +2,10 @@
 use Rattle.std.specs.Prelude.{◌≡◌, ℕ, zero, suc, ◌+◌, Bool, true, false, cond, not, ◌&&◌, List, [], ◌∷◌, length, replicate, is_some, Some, None, Option, nat_lt, slice_index_or, slice_set}
 use Rattle.book.specs.Books.{or_else}
 use Rattle.policy.specs.Policies.{Cs, Po}
-use Rattle.policy.specs.declared.tables.Action.{Action}
-use Rattle.policy.specs.declared.tables.Action.TheVariants.{Violate, Write}
-use Rattle.policy.specs.declared.tables.Term.{Term}
-use Rattle.policy.specs.declared.tables.Term.TheVariants.{Number, Field, Cell}
+use Rattle.policy.specs.declared.table.Action.{Action}
+use Rattle.policy.specs.declared.table.Action.TheVariants.{Violate, Write}
+use Rattle.policy.specs.declared.table.Term.{Term}
+use Rattle.policy.specs.declared.table.Term.TheVariants.{Number, Field, Cell}
 use Rattle.pruning.specs.Rules.{terms_of}
 use Rattle.pruning.specs.declared.marks.Marks.{Marks}
 use Rattle.pruning.specs.declared.marks.Reason.{Reason}

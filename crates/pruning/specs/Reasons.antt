@@ -1,7 +1,7 @@
 -- The lowest marked clause that has to do with a cell or with an operation, and the steps of a call that are kept.
 use Rattle.std.specs.Prelude.{◌≡◌, ℕ, ◌+◌, ◌<◌, Bool, true, false, ◌&&◌, List, length, replicate, is_some, Some, None, count_by, Option, slice_index_or}
 use Rattle.book.specs.Books.{Cl, or_else}
-use Rattle.book.specs.declared.tables.After.{After}
+use Rattle.book.specs.declared.table.After.{After}
 use Rattle.policy.specs.Policies.{Cs, Po}
 use Rattle.pruning.specs.Marking.{Marked, first_from, noted_all, reason_of}
 use Rattle.pruning.specs.Rules.{ClauseAt, MeaningfulClause, MeaningfulCell, Reads, terms_of}

@@ -1,11 +1,11 @@
 -- Which clauses and cells of a policy are meaningful: the three rules, and what they give.
 use Rattle.std.specs.Prelude.{◌≡◌, ℕ, ◌<◌, Bool, true, List, [], ◌∷◌, ◌++◌, length, Some, None, Option}
 use Rattle.policy.specs.Policies.{Cs, Po}
-use Rattle.policy.specs.declared.tables.Action.{Action}
-use Rattle.policy.specs.declared.tables.Action.TheVariants.{Violate, Write}
-use Rattle.policy.specs.declared.tables.Term.{Term}
-use Rattle.policy.specs.declared.tables.Term.TheVariants.{Cell}
-use Rattle.policy.specs.declared.tables.When.{When}
+use Rattle.policy.specs.declared.table.Action.{Action}
+use Rattle.policy.specs.declared.table.Action.TheVariants.{Violate, Write}
+use Rattle.policy.specs.declared.table.Term.{Term}
+use Rattle.policy.specs.declared.table.Term.TheVariants.{Cell}
+use Rattle.policy.specs.declared.table.When.{When}
 use Rattle.std.specs.List.{flat_map, ContainsAt as Among, slice_get}
 
 -- The words of the rules.

@@ -5,7 +5,7 @@ ghost use Rattle.pruning.specs.Marking.{Marked, reason_of, noted, noted_all, due
 ghost use Rattle.pruning.specs.Rules.{Obeys, Chosen, MeaningfulClause, MeaningfulCell, when_terms, action_terms, terms_of};
 
 use crate::marks::{Marks, Reason};
-use policy::tables::{Action, CELLS, CLAUSES, Clause, Table, Term, When};
+use policy::table::{Action, CELLS, CLAUSES, Clause, Table, Term, When};
 
 // Raises the flag of that number, where there is one.
 fn raise(flags: &mut [bool], number: usize)

@@ -1,7 +1,7 @@
 // What marking finds.
 ghost use Rattle.std.specs.Prelude.{◌≡◌, false, slice_index_or};
 
-use policy::tables::{CELLS, CLAUSES};
+use policy::table::{CELLS, CLAUSES};
 
 // A flag for each clause and for each cell, raised where it is meaningful; the others are idle.
 #[derive(Clone, Copy)]

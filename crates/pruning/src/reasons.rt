@@ -8,8 +8,8 @@ ghost use Rattle.pruning.specs.Rules.{terms_of, MeaningfulClause};
 
 use crate::marking::note_terms;
 use crate::marks::{Marks, Reason, StepCount, Tie, flag};
-use book::tables::Call;
-use policy::tables::{CELLS, Clause, Table};
+use book::table::Call;
+use policy::table::{CELLS, Clause, Table};
 
 // A flag for each cell, raised where it stands in a term of the clause.
 fn cells_read(table: &Table, clause: &Clause) -> [bool; CELLS]

@@ -5,7 +5,7 @@ ghost use Rattle.rehearse.specs.Rehearsals.{asked_of, answers_of, after_all};
 ghost use Rattle.run.specs.Runs.{state_of, opened};
 ghost use Rattle.std.specs.Prelude.{◌≡◌, ◌++◌, drop, IfOk, OnOk};
 
-use policy::tables::Table;
+use policy::table::Table;
 use register::flat::Flat;
 use register::register::Register;
 use run::answers::{Answer, Request};

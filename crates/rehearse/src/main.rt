@@ -9,11 +9,11 @@ mod reading;
 mod tests;
 
 use asked::{Line, Rehearsed, rehearse};
-use book::tables::Book;
+use book::table::Book;
 use lines::{Answered, Plots};
 use loading::found::found;
 use loading::load::load;
-use policy::tables::Table;
+use policy::table::Table;
 use reading::{Fault, Problem, read_plots, read_requests};
 use std::fs;
 use std::io::ErrorKind;

@@ -1,6 +1,6 @@
 // From the texts of the plots and of the calls to entries and requests, or to the fault in them.
 use crate::asked::{Asked, Line};
-use book::tables::Book;
+use book::table::Book;
 use std::alloc::{AllocError, AllocFailed, Global};
 use std::fmt;
 use std::str::SplitWhitespace;

@@ -2,7 +2,7 @@
 use crate::asked::{Asked, Line};
 use crate::lines::Plots;
 use crate::reading::{Fault, Problem, read_plots, read_requests};
-use book::tables::Book;
+use book::table::Book;
 use std::alloc::Global;
 use std::process::Abort;
 use std::test::Fail;

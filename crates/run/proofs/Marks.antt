@@ -1,15 +1,15 @@
 -- Values that give each mark the same value come to the same end.
 use Rattle.std.proofs.Common.{◌≡◌, ℕ, ◌+◌, Bool, true, false, cond, ◌&&◌, eqb, List, [], ◌∷◌, length, get_or, set, Some, None, Option, sym, refl, ap, ◌∙◌}
 use Rattle.book.specs.Books.{Cl}
-use Rattle.book.specs.declared.tables.Act.TheVariants.{Look, Put}
-use Rattle.book.specs.declared.tables.Act.{Act}
-use Rattle.book.specs.declared.tables.After.{After as Later}
+use Rattle.book.specs.declared.table.Act.TheVariants.{Look, Put}
+use Rattle.book.specs.declared.table.Act.{Act}
+use Rattle.book.specs.declared.table.After.{After as Later}
 use Rattle.policy.specs.Policies.{Cs}
-use Rattle.policy.specs.declared.tables.Action.TheVariants.{Violate, Write}
-use Rattle.policy.specs.declared.tables.Action.{Action}
-use Rattle.policy.specs.declared.tables.Term.TheVariants.{Number, Field, Cell}
-use Rattle.policy.specs.declared.tables.Term.{Term}
-use Rattle.policy.specs.declared.tables.When.{When}
+use Rattle.policy.specs.declared.table.Action.TheVariants.{Violate, Write}
+use Rattle.policy.specs.declared.table.Action.{Action}
+use Rattle.policy.specs.declared.table.Term.TheVariants.{Number, Field, Cell}
+use Rattle.policy.specs.declared.table.Term.{Term}
+use Rattle.policy.specs.declared.table.When.{When}
 use Rattle.run.specs.Calls.{St, Ended, Phased, after_step, befores_from, met_by, afters_from, looked_at, put_into, acted_on, given_before, given_after, by_afters, by_act, by_befores, of_call, at_call, called, call_of}
 use Rattle.run.specs.Laws.{SameMarks}
 use Rattle.run.specs.Steps.{Gv, Stepped, value_under, or_answer, fetched, term_value, compared, holds, all_hold, written, acted, violates, acts, step_from}

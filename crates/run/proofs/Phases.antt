@@ -1,6 +1,6 @@
 -- The steps of a phase, one after the other.
 use Rattle.std.proofs.Common.{◌≡◌, ℕ, ◌+◌, ◌<◌, ◌≤◌, Bool, true, false, cond, List, [], ◌∷◌, length, get_or, drop, Some, None, sym, ap, ◌∙◌}
-use Rattle.book.specs.declared.tables.After.{After as Later}
+use Rattle.book.specs.declared.table.After.{After as Later}
 use Rattle.policy.specs.Policies.{Cs}
 use Rattle.run.specs.Calls.{Phased, after_step, befores_from, met_by, afters_from}
 use Rattle.run.specs.Steps.{Gv, Stepped, step_from}

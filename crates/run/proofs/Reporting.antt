@@ -1,11 +1,11 @@
 -- Why a violation is reported: the clause, the step and the call that it came from.
 use Rattle.std.proofs.Common.{◌≡◌, ℕ, zero, suc, ◌+◌, Bool, true, false, cond, ◌&&◌, eqb, List, [], ◌∷◌, length, get_or, take, Some, None, Option, sym, refl, ap, ◌∙◌, subst, zero-add, arith}
 use Rattle.book.specs.Books.{Cl}
-use Rattle.book.specs.declared.tables.After.{After as Later}
+use Rattle.book.specs.declared.table.After.{After as Later}
 use Rattle.policy.specs.Policies.{Cs}
-use Rattle.policy.specs.declared.tables.Action.TheVariants.{Violate, Write}
-use Rattle.policy.specs.declared.tables.Action.{Action}
-use Rattle.policy.specs.declared.tables.When.{When}
+use Rattle.policy.specs.declared.table.Action.TheVariants.{Violate, Write}
+use Rattle.policy.specs.declared.table.Action.{Action}
+use Rattle.policy.specs.declared.table.When.{When}
 use Rattle.run.specs.Calls.{St, Ended, Phased, after_step, befores_from, met_by, afters_from, acted_on, given_before, given_after, by_afters, by_act, by_befores, of_call, at_call, called, call_of}
 use Rattle.run.specs.Laws.{Violates, InBefores, InAfters, DeniedBy, StoppedBy, Reported}
 use Rattle.run.specs.Steps.{Gv, Stepped, holds, all_hold, acted, violates, acts, step_from}
@@ -17,11 +17,11 @@ use Rattle.run.specs.declared.answers.Phase.{Phase}
 use Rattle.run.specs.declared.answers.Refusal.TheVariants.{WrongCount}
 use Rattle.run.specs.declared.answers.Violation.{Violation}
 use Rattle.std.proofs.lemmas.Bool.{false≢true, and_parts}
-use Rattle.std.specs.List.{AllByRecursion as All, slice_get}
+use Rattle.std.specs.List.{AllByRecursion, slice_get}
 
 -- The step.
 
-all_of : (g : Gv) (cells : List ℕ) (ws : List When) → all_hold g cells ws ≡ true → All (λ w. holds g cells w ≡ true) ws
+all_of : (g : Gv) (cells : List ℕ) (ws : List When) → all_hold g cells ws ≡ true → AllByRecursion (λ w. holds g cells w ≡ true) ws
 all_of g cells [] e = tt
 all_of g cells (w ∷ ws) e = let p = and_parts (holds g cells w) (all_hold g cells ws) e in (p.0, all_of g cells ws p.1)
 

@@ -1,7 +1,7 @@
 -- Conditions and clauses, one after the other.
 use Rattle.std.proofs.Common.{◌≡◌, ℕ, ◌+◌, ◌<◌, ◌≤◌, Bool, true, false, cond, ◌&&◌, List, [], ◌∷◌, length, get_or, drop, Some, None, sym, ap, ◌∙◌}
 use Rattle.policy.specs.Policies.{Cs}
-use Rattle.policy.specs.declared.tables.When.{When}
+use Rattle.policy.specs.declared.table.When.{When}
 use Rattle.run.specs.Steps.{Gv, Stepped, holds, all_hold, acted, violates, acts, step_from}
 use Rattle.std.proofs.lemmas.List.{at_drop_more, at_drop_all}
 use Rattle.std.proofs.lemmas.Bool.{and_left}

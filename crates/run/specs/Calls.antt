@@ -1,11 +1,11 @@
 -- What a script call and a question about a cell come to.
 use Rattle.std.specs.Prelude.{ℕ, ◌+◌, Bool, true, cond, not, List, [], ◌∷◌, length, Some, None, Ok, Err, Option, Result, ◌==◌}
 use Rattle.book.specs.Books.{Cl}
-use Rattle.book.specs.declared.tables.Act.TheVariants.{Look, Put}
-use Rattle.book.specs.declared.tables.Act.{Act}
-use Rattle.book.specs.declared.tables.After.{After as Later}
-use Rattle.book.specs.declared.tables.Condition.TheVariants.{Always, NotZero, Zero}
-use Rattle.book.specs.declared.tables.Condition.{Condition}
+use Rattle.book.specs.declared.table.Act.TheVariants.{Look, Put}
+use Rattle.book.specs.declared.table.Act.{Act}
+use Rattle.book.specs.declared.table.After.{After as Later}
+use Rattle.book.specs.declared.table.Condition.TheVariants.{Always, NotZero, Zero}
+use Rattle.book.specs.declared.table.Condition.{Condition}
 use Rattle.policy.specs.Meaning.{Tb}
 use Rattle.policy.specs.Policies.{Cs}
 use Rattle.register.specs.Plots.{entry_at, with_entry}

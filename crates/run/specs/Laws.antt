@@ -1,9 +1,9 @@
 -- What holds of every request, in words of its own: what is left as it was, that a stop is final, why a violation is reported, and that values count through their marks alone.
 use Rattle.std.specs.Prelude.{◌≡◌, ℕ, true, false, List, length, take, Some, None, slice_index_or}
 use Rattle.book.specs.Books.{Cl}
-use Rattle.book.specs.declared.tables.After.{After as Later}
+use Rattle.book.specs.declared.table.After.{After as Later}
 use Rattle.policy.specs.Policies.{Cs}
-use Rattle.policy.specs.declared.tables.Action.TheVariants.{Violate}
+use Rattle.policy.specs.declared.table.Action.TheVariants.{Violate}
 use Rattle.run.specs.Calls.{St, Ended, befores_from, afters_from, met_by, given_before, given_after, call_of}
 use Rattle.run.specs.Steps.{Gv, value_under, holds, step_from}
 use Rattle.run.specs.declared.answers.Answer.TheVariants.{Done, Denied, Stopped, Refused, Value, NotKept}
@@ -14,7 +14,7 @@ use Rattle.run.specs.declared.answers.Refusal.TheVariants.{Stopped as RunStopped
 use Rattle.run.specs.declared.answers.Request.TheVariants.{Call, Cell}
 use Rattle.run.specs.declared.answers.Request.{Request}
 use Rattle.run.specs.declared.answers.Violation.{Violation}
-use Rattle.std.specs.List.{AllByRecursion as All, slice_get}
+use Rattle.std.specs.List.{AllByRecursion, slice_get}
 
 -- What is left as it was.
 
@@ -42,7 +42,7 @@ pub record Violates (cs : List Cs) (o : ℕ) (g : Gv) (start : List ℕ) (i : �
   pub at : slice_get cs i ≡ Some clause
   pub before : step_from o g 0 (take i cs) start ≡ record { cells = cells; violation = None }
   pub applies : slice_index_or clause.covers o false ≡ true
-  pub conditions : All (λ w. holds g cells w ≡ true) clause.whens
+  pub conditions : AllByRecursion (λ w. holds g cells w ≡ true) clause.whens
   pub action : clause.action ≡ Some Violate
 
 -- a violation among BEFOREs that begin with those cells: the steps before it come to some cells with none, and its clause violates in its step from there

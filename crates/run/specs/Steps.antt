@@ -1,15 +1,15 @@
 -- What a step does: the clauses of its operation, in the order of the file, each seeing the cells as they then are.
 use Rattle.std.specs.Prelude.{ℕ, ◌+◌, ◌-◌, min, Bool, true, false, cond, not, ◌&&◌, List, [], ◌∷◌, Some, None, Option, ◌==◌, nat_le, nat_lt, slice_index, slice_index_or, slice_set}
 use Rattle.policy.specs.Policies.{Cs}
-use Rattle.policy.specs.declared.tables.Action.TheVariants.{Violate, Write}
-use Rattle.policy.specs.declared.tables.Action.{Action}
-use Rattle.policy.specs.declared.tables.Comparison.TheVariants.{Equal, Unequal, Less, AtMost}
-use Rattle.policy.specs.declared.tables.Comparison.{Comparison}
-use Rattle.policy.specs.declared.tables.Term.TheVariants.{Number, Field, Cell}
-use Rattle.policy.specs.declared.tables.Term.{Term}
-use Rattle.policy.specs.declared.tables.When.{When}
-use Rattle.policy.specs.declared.tables.Write.TheVariants.{Set, Add, Take}
-use Rattle.policy.specs.declared.tables.Write.{Write as Change}
+use Rattle.policy.specs.declared.table.Action.TheVariants.{Violate, Write}
+use Rattle.policy.specs.declared.table.Action.{Action}
+use Rattle.policy.specs.declared.table.Comparison.TheVariants.{Equal, Unequal, Less, AtMost}
+use Rattle.policy.specs.declared.table.Comparison.{Comparison}
+use Rattle.policy.specs.declared.table.Term.TheVariants.{Number, Field, Cell}
+use Rattle.policy.specs.declared.table.Term.{Term}
+use Rattle.policy.specs.declared.table.When.{When}
+use Rattle.policy.specs.declared.table.Write.TheVariants.{Set, Add, Take}
+use Rattle.policy.specs.declared.table.Write.{Write as Change}
 
 -- The values under the marks.
 

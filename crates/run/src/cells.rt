@@ -4,7 +4,7 @@ ghost use Rattle.run.specs.Cells.{cells_of};
 ghost use Rattle.std.specs.List.{slice_get};
 ghost use Rattle.std.specs.Prelude.{◌≡◌, length, slice_index, slice_set};
 
-use policy::tables::{CELLS, Table};
+use policy::table::{CELLS, Table};
 
 // The values of the cells, of which there are `count`.
 #[derive(Clone, Copy)]

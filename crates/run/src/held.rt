@@ -10,8 +10,8 @@ use crate::answers::{Phase, Violation};
 use crate::cells::Cells;
 use crate::given::Given;
 use crate::steps::step;
-use book::tables::{After, Condition};
-use policy::tables::Table;
+use book::table::{After, Condition};
+use policy::table::Table;
 
 // The cells, and their copy from when the call began.
 #[derive(Clone, Copy)]

@@ -13,8 +13,8 @@ use crate::answers::{Answer, Mode, Refusal, Request};
 use crate::cells::Cells;
 use crate::given::Given;
 use crate::held::{Checks, Held, run_afters};
-use book::tables::{Act, Call};
-use policy::tables::Table;
+use book::table::{Act, Call};
+use policy::table::Table;
 use register::register::Register;
 
 // What a run owns: the table and the cells, its mode, and the register.

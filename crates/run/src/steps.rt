@@ -7,7 +7,7 @@ ghost use Rattle.std.specs.Prelude.{◌≡◌};
 
 use crate::cells::Cells;
 use crate::given::Given;
-use policy::tables::{Action, Clause, Comparison, Table, Term, When, Write};
+use policy::table::{Action, Clause, Comparison, Table, Term, When, Write};
 
 // The value of a term.
 fn value_of(term: Term, given: &Given, cells: &Cells) -> u32

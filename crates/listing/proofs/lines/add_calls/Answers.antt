@@ -1,8 +1,8 @@
 use Rattle.std.proofs.Common.{◌≡◌, ℕ, ◌+◌, List, [], ◌∷◌, ◌++◌, length, Some, None, vec_items, Option, sym, ap, ◌∙◌, subst, arith, Bor}
 use Rattle.book.specs.Books.{Cl}
 use Rattle.book.specs.Meaning.{cl_of, book_of}
-use Rattle.book.specs.declared.tables.Book.{Book}
-use Rattle.book.specs.declared.tables.Call.{Call as Row}
+use Rattle.book.specs.declared.table.Book.{Book}
+use Rattle.book.specs.declared.table.Call.{Call as Row}
 use Rattle.listing.proofs.Listed.{some_at, added, all_added}
 use Rattle.listing.proofs.lines.add_calls.Goals as goal
 use Rattle.listing.proofs.lines.add_calls.Goals.{in-Some+in_ok-push, in_default}

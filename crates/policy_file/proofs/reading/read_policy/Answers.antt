@@ -1,6 +1,6 @@
 use Rattle.std.proofs.Common.{◌≡◌, ℕ, ◌<◌, ◌≤◌, Bool, cond, List, ◌++◌, length, Ok, Err, Result, sym, ap, ◌∙◌, subst, arith, rules}
 use Rattle.book.specs.Meaning.{book_of}
-use Rattle.book.specs.declared.tables.Book.{Book}
+use Rattle.book.specs.declared.table.Book.{Book}
 use Rattle.format.proofs.Turns.{Turn, first_turn, next_turn, turn_places, last_turn, end_turn, long_file, shorter}
 use Rattle.format.specs.Format.{step_of, place_of, name_places, refused_at}
 use Rattle.format.specs.Refusals.{At, number_of}

@@ -1,8 +1,8 @@
 use Rattle.std.proofs.Common.{◌≡◌, ℕ, ◌+◌, Bool, List, ◌++◌, length, drop, Option, sym, ap, ◌∙◌, arith}
-use Rattle.policy.specs.declared.tables.Action.{Action}
-use Rattle.policy.specs.declared.tables.Comparison.TheVariants.{Equal}
-use Rattle.policy.specs.declared.tables.Term.TheVariants.{Number}
-use Rattle.policy.specs.declared.tables.When.{When}
+use Rattle.policy.specs.declared.table.Action.{Action}
+use Rattle.policy.specs.declared.table.Comparison.TheVariants.{Equal}
+use Rattle.policy.specs.declared.table.Term.TheVariants.{Number}
+use Rattle.policy.specs.declared.table.When.{When}
 use Rattle.pruning.proofs.Noting.{when_noted}
 use Rattle.pruning.proofs.marking.note_terms.Goals as goal
 use Rattle.pruning.specs.Marking.{noted_all}

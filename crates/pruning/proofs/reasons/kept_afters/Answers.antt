@@ -1,6 +1,6 @@
 use Rattle.std.proofs.Common.{◌+◌, count_by, sym, ap, ◌∙◌, subst}
-use Rattle.book.specs.declared.tables.After.{After}
-use Rattle.book.specs.declared.tables.Condition.TheVariants.{Always}
+use Rattle.book.specs.declared.table.After.{After}
+use Rattle.book.specs.declared.table.Condition.TheVariants.{Always}
 use Rattle.policy.specs.Meaning.{policy_of}
 use Rattle.pruning.proofs.Counting.{Counted, count_yes, count_no, count_all}
 use Rattle.pruning.proofs.reasons.kept_afters.Goals as goal

@@ -1,6 +1,6 @@
 use Rattle.std.proofs.Common.{◌+◌, drop, sym, ap, ◌∙◌}
-use Rattle.book.specs.declared.tables.After.{After}
-use Rattle.book.specs.declared.tables.Condition.TheVariants.{Always}
+use Rattle.book.specs.declared.table.After.{After}
+use Rattle.book.specs.declared.table.Condition.TheVariants.{Always}
 use Rattle.policy.specs.Meaning.{policy_of}
 use Rattle.run.proofs.Phases.{afters_end, after_skips, after_goes, after_stops}
 use Rattle.run.proofs.held.run_afters.Goals as goal

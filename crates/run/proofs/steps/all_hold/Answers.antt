@@ -1,6 +1,6 @@
-use Rattle.policy.specs.declared.tables.Comparison.TheVariants.{Equal}
-use Rattle.policy.specs.declared.tables.Term.TheVariants.{Number}
-use Rattle.policy.specs.declared.tables.When.{When}
+use Rattle.policy.specs.declared.table.Comparison.TheVariants.{Equal}
+use Rattle.policy.specs.declared.table.Term.TheVariants.{Number}
+use Rattle.policy.specs.declared.table.When.{When}
 use Rattle.run.proofs.Stepping.{all_hold_true, one_fails, one_holds}
 use Rattle.run.proofs.steps.all_hold.Goals as goal
 use Rattle.run.specs.Cells.{cells_of}

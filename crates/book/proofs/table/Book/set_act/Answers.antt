@@ -1,0 +1,34 @@
+use Rattle.book.proofs.Halves.{calls_are}
+use Rattle.book.proofs.table.Book.set_act.Goals as goal
+use Rattle.book.specs.Books.{acting}
+use Rattle.book.specs.Meaning.{cl_of, book_of, cl_place}
+use Rattle.std.proofs.Common.{Some, refl, ◌∙◌}
+use Rattle.tables.proofs.Lent.{meant_none, row_same, row_changed, row_kept}
+
+pub returns-in-Some : goal.returns-in-Some
+returns-in-Some c =
+    let b = c.args.self.now in
+    let r = b.calls in
+    let o = c.in-Some.call.now in
+    let w = c.set_act.new.self in
+    let t = c.last_mut.follows.lender w in
+    let e = c.in-Some.ensures.value in
+    let l = c.last_mut.follows.holds w in
+    record {
+      is = row_changed cl_of r (calls_are (book_of b)) t (acting (Some c.args.act)) o w e l c.set_act.ensures.is;
+      calls = row_kept cl_place r (λ l. l) t o w e l c.set_act.ensures.place;
+      operations = refl;
+    }
+
+pub returns-in_default : goal.returns-in_default
+returns-in_default c =
+    let b = c.args.self.now in
+    let r = b.calls in
+    let t = c.last_mut.follows.lender-at-none in
+    let same = c.last_mut.follows.holds-at-none in
+    let n = meant_none cl_of r c.in_default.ensures.value in
+    record {
+      is = row_same cl_of r (calls_are (book_of b)) t same ∙ simp n;
+      calls = row_same cl_place r (λ l. l) t same;
+      operations = refl;
+    }

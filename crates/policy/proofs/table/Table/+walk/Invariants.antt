@@ -1,0 +1,11 @@
+use Rattle.policy.proofs.Walks.{Kept}
+use Rattle.policy.proofs.table.Table.+walk.Given as goal
+use Rattle.policy.specs.Meaning.{policy_of}
+
+-- A nested group has a lower number.
+abbrev pub decreases-walk : goal.decreases-walk
+decreases-walk l = l.number
+
+-- What the members so far bring is flagged.
+abbrev pub invariant-loop-listed : goal.invariant-loop-listed
+invariant-loop-listed l = Kept (policy_of l.self).groups l.number l.members l.listed-index l.walked l.initial.covers l.covers

@@ -1,0 +1,10 @@
+use Rattle.policy.proofs.Walks.{none_walked, first_grown}
+use Rattle.policy.proofs.table.Table.coverage.Goals as goal
+use Rattle.policy.specs.Meaning.{policy_of}
+use Rattle.std.proofs.Common.{false, replicate, arith}
+
+pub walk-requires : goal.walk-requires
+walk-requires c = none_walked (policy_of c.args.self.now).groups (replicate 64 false)
+
+pub returns : goal.returns
+returns c = first_grown (policy_of c.args.self.now).groups c.args.number c.walk.new.covers (omega arith) c.walk.ensures.grown
