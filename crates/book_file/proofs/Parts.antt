@@ -1,7 +1,7 @@
 -- The tests on parts of a book, as the plain conditions that they decide.
 use Rattle.std.proofs.Common.{◌≡◌, ℕ, zero, suc, ◌+◌, ◌<◌, ◌≤◌, Bool, true, false, cond, not, ◌&&◌, eqb, leb, List, [], ◌∷◌, ◌++◌, length, is_some, Some, None, Decides, sym, refl, le_of_suc-le-suc, not-suc-le-zero, arith, ltb-true, ne_eqb, eqb-true, le-leb, leb-true}
 use Rattle.book.proofs.Sets.{has_decides}
-use Rattle.book.specs.Books.{Op, marks_at, has, has_all, full, named, filled}
+use Rattle.book.specs.Books.{Op, marks_at, has, has_all, full, named}
 use Rattle.book.specs.declared.table.Act.TheVariants.{Look, Put}
 use Rattle.book.specs.declared.table.Act.{Act}
 use Rattle.book.specs.declared.table.Condition.TheVariants.{Always, NotZero, Zero}
