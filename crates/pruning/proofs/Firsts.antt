@@ -1,5 +1,5 @@
 -- The first clause that passes a test: where it stands, and a search for it from the front.
-use Rattle.std.proofs.Common.{◌≡◌, ℕ, zero, suc, ◌+◌, ◌<◌, ◌≤◌, Bool, true, false, cond, List, [], ◌∷◌, length, get_or, drop, Some, None, Option, sym, refl, ap, ◌∙◌, subst, le_of_suc-le-suc, add-zero, arith}
+use Rattle.std.proofs.Common.{◌≡◌, ℕ, zero, suc, ◌+◌, ◌<◌, ◌≤◌, Bool, true, false, cond, List, [], ◌∷◌, length, get_or, drop, Some, None, sym, refl, ap, ◌∙◌, subst, le_of_suc-le-suc, add-zero, arith}
 use Rattle.policy.specs.Policies.{Cs}
 use Rattle.pruning.specs.Marking.{first_from}
 use Rattle.std.proofs.lemmas.List.{at_drop_more, at_drop_all}

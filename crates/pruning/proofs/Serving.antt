@@ -1,9 +1,9 @@
 -- The lowest marked clause that is tied to a cell or an operation.
-use Rattle.std.proofs.Common.{◌≡◌, ℕ, ◌+◌, ◌<◌, ◌≤◌, Bool, true, false, List, length, get_or, replicate, is_some, Some, None, Decides, Option, sym, refl, ap, ◌∙◌, subst, ⊎_elim, zero-add, arith}
+use Rattle.std.proofs.Common.{◌≡◌, ℕ, ◌≤◌, Bool, true, false, List, length, get_or, replicate, is_some, Some, None, Decides, Option, sym, refl, ap, ◌∙◌, subst, ⊎_elim, zero-add, arith}
 use Rattle.policy.specs.Meaning.{policy_of}
 use Rattle.policy.specs.Policies.{Cs, Po}
 use Rattle.policy.specs.declared.table.Table.{Table}
-use Rattle.pruning.proofs.Firsts.{FirstAt, first_some, first_none}
+use Rattle.pruning.proofs.Firsts.{first_some, first_none}
 use Rattle.pruning.proofs.Flags.{none_up}
 use Rattle.policy.proofs.Few.{few_clauses, few_cells}
 use Rattle.pruning.proofs.Noting.{noted_back, noted_new}

@@ -1,19 +1,19 @@
 -- The marking: what each clause that is marked keeps, and what stands when none is due.
-use Rattle.std.proofs.Common.{◌≡◌, ℕ, zero, suc, ◌+◌, ◌<◌, ◌≤◌, Bool, true, false, cond, not, ◌&&◌, ◌⊎◌, List, [], length, get_or, set, replicate, is_some, Some, None, Decides, Option, sym, refl, ap, ◌∙◌, subst, inl, inr, ⊎_elim, zero-add, arith}
+use Rattle.std.proofs.Common.{◌≡◌, ℕ, zero, suc, ◌<◌, ◌≤◌, Bool, true, false, cond, not, List, [], length, get_or, set, replicate, is_some, Some, None, Decides, Option, sym, refl, ap, ◌∙◌, subst, ⊎_elim, zero-add, arith}
 use Rattle.book.specs.Books.{or_else}
 use Rattle.policy.specs.Policies.{Cs, Po}
 use Rattle.policy.specs.declared.table.Action.TheVariants.{Violate, Write}
 use Rattle.policy.specs.declared.table.Action.{Action}
 use Rattle.policy.specs.declared.table.Term.TheVariants.{Cell}
 use Rattle.policy.specs.declared.table.Term.{Term}
-use Rattle.pruning.proofs.Firsts.{FirstAt, first_some, first_none}
-use Rattle.pruning.proofs.Flags.{set-flag, flag_set, down, down_set, none_up}
+use Rattle.pruning.proofs.Firsts.{first_some, first_none}
+use Rattle.pruning.proofs.Flags.{flag_set, down, down_set, none_up}
 use Rattle.pruning.proofs.Noting.{noted_all_length, noted_back, noted_kept, noted_new}
 use Rattle.pruning.specs.Marking.{Marked, reason_of, noted_all, due, next_of, terms_at, marked_at, turned, marked_from, no_marks, marks_of}
 use Rattle.pruning.specs.Reasons.{why_of}
 use Rattle.pruning.specs.Rules.MeaningfulCell.{by_reading}
 use Rattle.pruning.specs.Rules.MeaningfulClause.{by_violation, by_write}
-use Rattle.pruning.specs.Rules.{ClauseAt, Violates, Writes, written_by, Reads, Obeys, MeaningfulClause, MeaningfulCell, terms_of}
+use Rattle.pruning.specs.Rules.{ClauseAt, written_by, Reads, Obeys, MeaningfulClause, MeaningfulCell, terms_of}
 use Rattle.pruning.specs.declared.marks.Marks.{Marks}
 use Rattle.pruning.specs.declared.marks.Reason.TheVariants.{Writes as WRITES}
 use Rattle.pruning.specs.declared.marks.Reason.{Reason}

@@ -1,13 +1,12 @@
-use Rattle.std.proofs.Common.{◌≡◌, ◌<◌, true, Some, None, sym, ap, ◌∙◌, subst, arith}
+use Rattle.std.proofs.Common.{◌≡◌, Some, sym, ap, ◌∙◌, subst, arith}
 use Rattle.policy.specs.Meaning.{policy_of}
 use Rattle.pruning.proofs.Flags.{down}
 use Rattle.policy.proofs.Few.{few_clauses, few_cells}
 use Rattle.pruning.proofs.Settling.{Going, falls, leads_off, starts, goes, Right, right, obeys, least, exact_clause, exact_cell}
 use Rattle.pruning.proofs.marking.mark.Goals as goal
-use Rattle.pruning.specs.Marking.{next_of, marked_at, marked_from}
+use Rattle.pruning.specs.Marking.{next_of}
 use Rattle.pruning.specs.Rules.{Chosen}
 use Rattle.pruning.specs.declared.marks.Marks.{Marks}
-use Rattle.std.proofs.lemmas.List.{length-set}
 
 pub loop-number-init : goal.loop-number-init
 loop-number-init c = subst (λ (m : Marks). Going (policy_of c.args.table.now) m) (sym c.none-marks.ensures) (starts (policy_of c.args.table.now))

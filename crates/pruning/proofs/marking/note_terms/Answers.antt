@@ -1,4 +1,4 @@
-use Rattle.std.proofs.Common.{◌≡◌, ℕ, ◌+◌, Bool, List, ◌++◌, length, drop, Option, sym, ap, ◌∙◌, arith}
+use Rattle.std.proofs.Common.{ℕ, ◌+◌, Bool, List, ◌++◌, length, drop, Option, sym, ap, ◌∙◌, arith}
 use Rattle.policy.specs.declared.table.Action.{Action}
 use Rattle.policy.specs.declared.table.Comparison.TheVariants.{Equal}
 use Rattle.policy.specs.declared.table.Term.TheVariants.{Number}

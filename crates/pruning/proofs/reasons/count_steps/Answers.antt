@@ -1,4 +1,4 @@
-use Rattle.std.proofs.Common.{◌≡◌, ℕ, ◌+◌, ◌≤◌, length, count_by, refl, ap, ◌∙◌, arith}
+use Rattle.std.proofs.Common.{◌≡◌, ℕ, ◌+◌, length, count_by, refl, ap, ◌∙◌, arith}
 use Rattle.policy.specs.Meaning.{policy_of}
 use Rattle.pruning.proofs.Counting.{few_befores, few_afters}
 use Rattle.pruning.proofs.Serving.{lowest_promised}

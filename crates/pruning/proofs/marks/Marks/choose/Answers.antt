@@ -2,7 +2,7 @@ use Rattle.policy.specs.Meaning.{cs_of, policy_of}
 use Rattle.policy.proofs.Items.{item_at, item_past}
 use Rattle.pruning.proofs.Settling.{marked_there, marked_past}
 use Rattle.pruning.proofs.marks.Marks.choose.Goals as goal
-use Rattle.std.proofs.Common.{length, ap, ◌∙◌}
+use Rattle.std.proofs.Common.{length, ap}
 
 pub returns-then-number-clauses : goal.returns-then-number-clauses
 returns-then-number-clauses c =
