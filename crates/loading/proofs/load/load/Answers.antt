@@ -18,7 +18,7 @@ returns-in-Err-read_policy c =
     let a = at_of c.in-Err-read_policy.refused in
     let read = c.in_default-read_book.ensures in
     let refused = c.in-Err-read_policy.ensures in
-    let files : loaded (option_map ((λ x. x.now) {X = List ℕ}) c.args.book) (option_map ((λ x. x.now) {X = List ℕ}) c.args.policy) ≡ loaded (Some bf) (Some pf) = ap (λ (o : Option (Bor (List ℕ))). loaded (option_map ((λ x. x.now) {X = List ℕ}) o) (option_map ((λ x. x.now) {X = List ℕ}) c.args.policy)) c.in-Some.is ∙ ap (λ (o : Option (Bor (List ℕ))). loaded (Some bf) (option_map ((λ x. x.now) {X = List ℕ}) o)) c.in-Some-policy.is in
+    let files : loaded (option_map (λ (r : Bor (List ℕ)). r.now) c.args.book) (option_map (λ (r : Bor (List ℕ)). r.now) c.args.policy) ≡ loaded (Some bf) (Some pf) = ap (λ (o : Option (Bor (List ℕ))). loaded (option_map (λ (r : Bor (List ℕ)). r.now) o) (option_map (λ (r : Bor (List ℕ)). r.now) c.args.policy)) c.in-Some.is ∙ ap (λ (o : Option (Bor (List ℕ))). loaded (Some bf) (option_map (λ (r : Bor (List ℕ)). r.now) o)) c.in-Some-policy.is in
     let is = files ∙ load_refused bf pf b a read.answer read.left refused.answer in
     let empty = refused.left ∙ table_empty bf pf b a read.answer read.left refused.answer in
     let none = places_empty bf pf b a read.answer read.left refused.answer in
