@@ -1,5 +1,5 @@
 -- What each register shows of its meaning: it is short, its entries fit, and what stays beside it stays over many calls.
-use Rattle.std.specs.Prelude.{ℕ, ◌-◌, ◌^◌, ◌<◌, ◌≤◌, List, ◌++◌, length, get_or, take, refl}
+use Rattle.std.specs.Prelude.{ℕ, ◌-◌, ◌<◌, ◌≤◌, List, ◌++◌, length, take, refl}
 use Rattle.std.proofs.Common.{◌∙◌, ⊎_elim, arith, length-take}
 use Rattle.std.specs.Borrow.{MutBor}
 use Rattle.std.proofs.lemmas.List.{get_or-take, get_or_past, get_or_append_left, get_or-append_right}

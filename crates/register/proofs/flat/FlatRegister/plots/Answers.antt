@@ -6,10 +6,10 @@ use Rattle.register.proofs.flat.FlatRegister.plots.Goals as goal
 
 pub returns-then-count : goal.returns-then-count
 returns-then-count c =
-    let f : Fit c.args.self.now.numbers.now = c.count-of-count.ensures.fit in
+    let f : Fit c.args.self.now.numbers.now = c.count_of-count.ensures.fit in
     record { count = simp length-take (omega arith); fit = cut_fit c.args.self.now.numbers.now f }
 
 pub returns-else-count : goal.returns-else-count
 returns-else-count c =
-    let f : Fit c.args.self.now.numbers.now = c.count-of-count.ensures.fit in
+    let f : Fit c.args.self.now.numbers.now = c.count_of-count.ensures.fit in
     record { count = simp length-take (omega arith); fit = cut_fit c.args.self.now.numbers.now f }
