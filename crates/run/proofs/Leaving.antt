@@ -1,13 +1,13 @@
 -- What a request leaves, and that a stop is final.
-use Rattle.std.proofs.Common.{◌≡◌, ℕ, Bool, true, false, cond, eqb, List, length, Some, None, Ok, Err, Option, Result, sym, refl, ap, ◌∙◌, subst}
+use Rattle.std.proofs.Common.{ℕ, Bool, true, false, cond, eqb, List, length, Some, None, Ok, Err, Option, Result, refl, ap}
 use Rattle.book.specs.Books.{Cl}
-use Rattle.run.specs.Calls.{St, Ended, Phased, by_afters, by_act, by_befores, of_call, at_call, called, acted_on, afters_from, befores_from, given_before, given_after, call_of}
-use Rattle.run.specs.Laws.{Leaves, Final, NoCall}
+use Rattle.run.specs.Calls.{St, Phased, by_afters, by_act, by_befores, at_call, called, acted_on, afters_from, befores_from, given_before, given_after}
+use Rattle.run.specs.Laws.{Leaves, Final}
 use Rattle.run.specs.Runs.{cell_of, cell_answer, answer_of}
-use Rattle.run.specs.declared.answers.Answer.TheVariants.{Done, Denied, Stopped, Refused, Value, NotKept}
+use Rattle.run.specs.declared.answers.Answer.TheVariants.{Refused}
 use Rattle.run.specs.declared.answers.Mode.TheVariants.{Open, Stopped as STOPPED}
 use Rattle.run.specs.declared.answers.Mode.{Mode}
-use Rattle.run.specs.declared.answers.Refusal.TheVariants.{Stopped as RunStopped, WrongCount}
+use Rattle.run.specs.declared.answers.Refusal.TheVariants.{WrongCount}
 use Rattle.run.specs.declared.answers.Refusal.{Refusal}
 use Rattle.run.specs.declared.answers.Request.TheVariants.{Call, Cell}
 use Rattle.run.specs.declared.answers.Request.{Request}

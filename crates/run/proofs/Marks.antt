@@ -1,5 +1,5 @@
 -- Values that give each mark the same value come to the same end.
-use Rattle.std.proofs.Common.{◌≡◌, ℕ, ◌+◌, Bool, true, false, cond, ◌&&◌, eqb, List, [], ◌∷◌, length, get_or, set, Some, None, Option, sym, refl, ap, ◌∙◌}
+use Rattle.std.proofs.Common.{◌≡◌, ℕ, ◌+◌, Bool, false, cond, ◌&&◌, eqb, List, [], ◌∷◌, length, get_or, set, Some, None, Option, refl, ap, ◌∙◌}
 use Rattle.book.specs.Books.{Cl}
 use Rattle.book.specs.declared.table.Act.TheVariants.{Look, Put}
 use Rattle.book.specs.declared.table.Act.{Act}
@@ -12,7 +12,7 @@ use Rattle.policy.specs.declared.table.Term.{Term}
 use Rattle.policy.specs.declared.table.When.{When}
 use Rattle.run.specs.Calls.{St, Ended, Phased, after_step, befores_from, met_by, afters_from, looked_at, put_into, acted_on, given_before, given_after, by_afters, by_act, by_befores, of_call, at_call, called, call_of}
 use Rattle.run.specs.Laws.{SameMarks}
-use Rattle.run.specs.Steps.{Gv, Stepped, value_under, or_answer, fetched, term_value, compared, holds, all_hold, written, acted, violates, acts, step_from}
+use Rattle.run.specs.Steps.{Gv, Stepped, value_under, fetched, term_value, compared, holds, all_hold, written, acted, violates, acts, step_from}
 use Rattle.run.specs.declared.answers.Answer.TheVariants.{Refused}
 use Rattle.run.specs.declared.answers.Mode.TheVariants.{Open, Stopped}
 use Rattle.run.specs.declared.answers.Mode.{Mode}

@@ -1,5 +1,5 @@
 -- The steps of a phase, one after the other.
-use Rattle.std.proofs.Common.{◌≡◌, ℕ, ◌+◌, ◌<◌, ◌≤◌, Bool, true, false, cond, List, [], ◌∷◌, length, get_or, drop, Some, None, sym, ap, ◌∙◌}
+use Rattle.std.proofs.Common.{◌≡◌, ℕ, ◌+◌, ◌<◌, ◌≤◌, Bool, true, false, cond, List, ◌∷◌, length, get_or, drop, Some, None, sym, ap, ◌∙◌}
 use Rattle.book.specs.declared.table.After.{After as Later}
 use Rattle.policy.specs.Policies.{Cs}
 use Rattle.run.specs.Calls.{Phased, after_step, befores_from, met_by, afters_from}

@@ -1,19 +1,18 @@
 -- Why a violation is reported: the clause, the step and the call that it came from.
-use Rattle.std.proofs.Common.{◌≡◌, ℕ, zero, suc, ◌+◌, Bool, true, false, cond, ◌&&◌, eqb, List, [], ◌∷◌, length, get_or, take, Some, None, Option, sym, refl, ap, ◌∙◌, subst, zero-add, arith}
+use Rattle.std.proofs.Common.{◌≡◌, ℕ, suc, ◌+◌, Bool, true, false, cond, eqb, List, [], ◌∷◌, length, get_or, take, Some, None, Option, sym, refl, ap, ◌∙◌, subst, zero-add, arith}
 use Rattle.book.specs.Books.{Cl}
 use Rattle.book.specs.declared.table.After.{After as Later}
 use Rattle.policy.specs.Policies.{Cs}
 use Rattle.policy.specs.declared.table.Action.TheVariants.{Violate, Write}
 use Rattle.policy.specs.declared.table.Action.{Action}
 use Rattle.policy.specs.declared.table.When.{When}
-use Rattle.run.specs.Calls.{St, Ended, Phased, after_step, befores_from, met_by, afters_from, acted_on, given_before, given_after, by_afters, by_act, by_befores, of_call, at_call, called, call_of}
-use Rattle.run.specs.Laws.{Violates, InBefores, InAfters, DeniedBy, StoppedBy, Reported}
+use Rattle.run.specs.Calls.{St, Phased, after_step, befores_from, met_by, afters_from, acted_on, given_before, given_after, by_afters, by_act, by_befores, at_call, called, call_of}
+use Rattle.run.specs.Laws.{Violates, InBefores, InAfters, Reported}
 use Rattle.run.specs.Steps.{Gv, Stepped, holds, all_hold, acted, violates, acts, step_from}
 use Rattle.run.specs.declared.answers.Answer.TheVariants.{Refused}
 use Rattle.run.specs.declared.answers.Mode.TheVariants.{Open, Stopped}
 use Rattle.run.specs.declared.answers.Mode.{Mode}
 use Rattle.run.specs.declared.answers.Phase.TheVariants.{Before, After}
-use Rattle.run.specs.declared.answers.Phase.{Phase}
 use Rattle.run.specs.declared.answers.Refusal.TheVariants.{WrongCount}
 use Rattle.run.specs.declared.answers.Violation.{Violation}
 use Rattle.std.proofs.lemmas.Bool.{false≢true, and_parts}

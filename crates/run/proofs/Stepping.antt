@@ -1,5 +1,5 @@
 -- Conditions and clauses, one after the other.
-use Rattle.std.proofs.Common.{◌≡◌, ℕ, ◌+◌, ◌<◌, ◌≤◌, Bool, true, false, cond, ◌&&◌, List, [], ◌∷◌, length, get_or, drop, Some, None, sym, ap, ◌∙◌}
+use Rattle.std.proofs.Common.{◌≡◌, ℕ, ◌+◌, ◌<◌, ◌≤◌, Bool, true, false, cond, ◌&&◌, List, ◌∷◌, length, get_or, drop, Some, None, sym, ap, ◌∙◌}
 use Rattle.policy.specs.Policies.{Cs}
 use Rattle.policy.specs.declared.table.When.{When}
 use Rattle.run.specs.Steps.{Gv, Stepped, holds, all_hold, acted, violates, acts, step_from}

@@ -8,7 +8,7 @@ use Rattle.run.specs.Calls.{St, Ended, befores_from, afters_from, met_by, given_
 use Rattle.run.specs.Steps.{Gv, value_under, holds, step_from}
 use Rattle.run.specs.declared.answers.Answer.TheVariants.{Done, Denied, Stopped, Refused, Value, NotKept}
 use Rattle.run.specs.declared.answers.Answer.{Answer}
-use Rattle.run.specs.declared.answers.Mode.TheVariants.{Open, Stopped as STOPPED}
+use Rattle.run.specs.declared.answers.Mode.TheVariants.{Stopped as STOPPED}
 use Rattle.run.specs.declared.answers.Phase.TheVariants.{Before, After}
 use Rattle.run.specs.declared.answers.Refusal.TheVariants.{Stopped as RunStopped}
 use Rattle.run.specs.declared.answers.Request.TheVariants.{Call, Cell}

@@ -63,7 +63,7 @@ pub struct Checks {
 impl Checks {
     // Runs the BEFOREs; a violation puts every cell back to what it held.
     pub(crate) fn run_befores(&mut self, befores: &[u8], given: &Given) -> Result<(), Violation>
-        ensures* cells { λ r. ⌜ record { cells = cells_of self.new.held.cells; result = r } ≡ tried_of (cells_of self.old.held.cells) (befores_from (policy_of self.old.table).clauses (given_of given.now) 0 befores.now (cells_of self.old.held.cells)) ⌝ }
+        ensures cells { record { cells = cells_of self.new.held.cells; result = result } ≡ tried_of (cells_of self.old.held.cells) (befores_from (policy_of self.old.table).clauses (given_of given.now) 0 befores.now (cells_of self.old.held.cells)) }
         ensures kept { OnOk result (self.new.held.kept ≡ self.old.held.cells) }
         ensures table { self.new.table ≡ self.old.table }
     {

@@ -1,7 +1,6 @@
-use Rattle.std.proofs.Common.{◌≡◌, ℕ, ◌+◌, List, drop, Option, sym, ap, ◌∙◌, arith}
+use Rattle.std.proofs.Common.{ℕ, ◌+◌, List, drop, sym, ap, ◌∙◌, arith}
 use Rattle.policy.proofs.Items.{items_long, item_within, item_is}
 use Rattle.policy.specs.Meaning.{cs_of, policy_of}
-use Rattle.policy.specs.declared.table.Action.{Action}
 use Rattle.run.proofs.Stepping.{step_ends, step_skips, step_violates, step_acts}
 use Rattle.run.proofs.steps.step.Goals as goal
 use Rattle.run.proofs.steps.step.Goals.{then-acts+else-is_violation, else-acts}

@@ -1,8 +1,8 @@
-use Rattle.std.proofs.Common.{◌≡◌, ℕ, get_or, Ok, Err, sym, refl, ap, ◌∙◌, arith}
+use Rattle.std.proofs.Common.{get_or, Ok, Err, sym, refl, ap, ◌∙◌}
 use Rattle.policy.specs.Meaning.{policy_of}
 use Rattle.run.proofs.Phases.{befores_end, before_goes, before_stops}
 use Rattle.run.proofs.held.Checks.run_befores.Goals as goal
-use Rattle.run.specs.Calls.{Phased, Tried, tried_of}
+use Rattle.run.specs.Calls.{Tried, tried_of}
 use Rattle.run.specs.Cells.{cells_of}
 use Rattle.run.specs.Given.{given_of}
 use Rattle.run.specs.declared.answers.Phase.TheVariants.{Before}

@@ -10,6 +10,6 @@ abbrev pub invariant-loop-place : goal.invariant-loop-place
 invariant-loop-place l =
     let cs = (policy_of l.table).clauses in
     let g = given_of l.given in
-    (l.trial.held.name ≡ l.initial.trial.held.name)
+    (l.trial.held.ghost_name ≡ l.initial.trial.held.ghost_name)
     × (l.trial.held.now.kept ≡ l.initial.trial.held.now.kept)
     × (befores_from cs g l.place (drop l.place l.befores) (cells_of l.trial.held.now.cells) ≡ befores_from cs g 0 l.befores (cells_of l.initial.trial.held.now.cells))

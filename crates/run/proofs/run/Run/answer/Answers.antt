@@ -1,6 +1,5 @@
 use Rattle.run.proofs.Leaving.{leaves, final}
 use Rattle.run.proofs.run.Run.answer.Goals as goal
-use Rattle.run.specs.Calls.{Ended}
 use Rattle.run.specs.Laws.{Leaves, Final}
 use Rattle.run.specs.Runs.{state_of}
 use Rattle.std.proofs.Common.{sym, subst}
