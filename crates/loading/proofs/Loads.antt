@@ -1,14 +1,12 @@
 -- A policy that is refused against a book that was read.
-use Rattle.std.proofs.Common.{◌≡◌, ℕ, List, [], Some, Ok, Err, Result, sym, refl, ap, ◌∙◌, arith}
+use Rattle.std.proofs.Common.{◌≡◌, ℕ, List, [], Some, Ok, Err, Result, sym, ap, ◌∙◌, arith}
 use Rattle.book.specs.Books.{Bk, empty_book}
 use Rattle.book_file.specs.Law.{book_format}
 use Rattle.format.specs.Format.{read_file, answer_of, whole_left}
 use Rattle.format.specs.Refusals.{At}
 use Rattle.loading.specs.Faults.Trouble.{bad_policy}
-use Rattle.loading.specs.Faults.{Trouble}
 use Rattle.loading.specs.Loading.{with_policy, with_book, loaded}
 use Rattle.policy_file.specs.Law.{policy_format}
-use Rattle.policy.specs.Meaning.{Tb}
 use Rattle.policy.specs.Policies.{Po, empty_policy}
 use Rattle.policy_file.specs.Reading.{table_left, places_left}
 

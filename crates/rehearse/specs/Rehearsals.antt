@@ -1,5 +1,5 @@
 -- Requests answered one after the other.
-use Rattle.std.specs.Prelude.{ℕ, List, [], ◌∷◌, vec_items}
+use Rattle.std.specs.Prelude.{List, [], ◌∷◌, vec_items}
 use Rattle.rehearse.specs.declared.asked.Asked.TheVariants.{Call, Cell}
 use Rattle.rehearse.specs.declared.asked.Asked.{Asked}
 use Rattle.rehearse.specs.declared.asked.Line.{Line}

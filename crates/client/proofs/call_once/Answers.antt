@@ -3,7 +3,7 @@ use Rattle.policy.specs.Meaning.{table_of}
 use Rattle.register.specs.Plots.{cut}
 use Rattle.run.specs.Calls.{call_of}
 use Rattle.run.specs.Runs.{opened}
-use mathlib.Core.Path.{◌≡◌, ap, ◌∙◌}
+use mathlib.Core.Path.{ap, ◌∙◌}
 
 pub returns : goal.returns
 returns c =

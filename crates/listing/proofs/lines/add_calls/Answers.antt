@@ -1,4 +1,4 @@
-use Rattle.std.proofs.Common.{◌≡◌, ℕ, ◌+◌, List, [], ◌∷◌, ◌++◌, length, Some, None, vec_items, Option, sym, ap, ◌∙◌, subst, arith, Bor}
+use Rattle.std.proofs.Common.{◌≡◌, ℕ, List, [], ◌∷◌, ◌++◌, length, Some, None, vec_items, Option, sym, ap, ◌∙◌, arith, Bor}
 use Rattle.book.specs.Books.{Cl}
 use Rattle.book.specs.Meaning.{cl_of, book_of}
 use Rattle.book.specs.declared.table.Book.{Book}

@@ -3,7 +3,7 @@ use Rattle.listing.proofs.lines.add_cells.Goals as goal
 use Rattle.listing.specs.Lines.{cell_line}
 use Rattle.listing.specs.declared.lines.Line.{Line}
 use Rattle.policy.specs.Meaning.{policy_of}
-use Rattle.std.proofs.Common.{List, [], ◌∷◌, ◌++◌, length, vec_items, ap, ◌∙◌, arith}
+use Rattle.std.proofs.Common.{[], ◌∷◌, ◌++◌, length, vec_items, ap, ◌∙◌, arith}
 
 pub loop-number-preserved : goal.loop-number-preserved
 loop-number-preserved c =

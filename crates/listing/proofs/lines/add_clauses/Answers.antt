@@ -4,7 +4,7 @@ use Rattle.listing.specs.Lines.{clause_line}
 use Rattle.listing.specs.declared.lines.Line.{Line}
 use Rattle.policy.specs.Meaning.{policy_of}
 use Rattle.policy.proofs.Items.{items_long}
-use Rattle.std.proofs.Common.{List, [], ◌∷◌, ◌++◌, vec_items, ap, ◌∙◌, arith}
+use Rattle.std.proofs.Common.{[], ◌∷◌, ◌++◌, vec_items, ap, ◌∙◌, arith}
 
 pub loop-number-preserved : goal.loop-number-preserved
 loop-number-preserved c =

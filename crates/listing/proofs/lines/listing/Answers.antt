@@ -3,7 +3,6 @@ use Rattle.listing.proofs.Listed.{thrice}
 use Rattle.listing.proofs.lines.listing.Goals as goal
 use Rattle.listing.specs.Lines.{lines_with}
 use Rattle.policy.specs.Meaning.{policy_of}
-use Rattle.pruning.specs.declared.marks.Marks.{Marks}
 use Rattle.std.proofs.Common.{ap, ◌∙◌}
 
 pub returns : goal.returns

@@ -1,11 +1,10 @@
-use Rattle.std.proofs.Common.{◌≡◌, ℕ, List, Some, Option, Result, sym, ap, ◌∙◌, Bor}
-use Rattle.book.specs.Books.{Bk}
+use Rattle.std.proofs.Common.{◌≡◌, ℕ, List, Some, Option, sym, ap, ◌∙◌, Bor}
 use Rattle.book_file.specs.Law.{book_format, operation_name, call_name}
 use Rattle.book.specs.Meaning.{book_of, operation_places, call_places}
 use Rattle.format.specs.Format.{name_places}
 use Rattle.loading.proofs.Loads.{load_refused, table_empty, places_empty}
 use Rattle.loading.proofs.load.load.Goals as goal
-use Rattle.loading.specs.Faults.{Trouble, at_of}
+use Rattle.loading.specs.Faults.{at_of}
 use Rattle.loading.specs.Loading.{loaded, verdict_of, table_after}
 use Rattle.policy.specs.Meaning.{Tb}
 use Rattle.std.specs.Option.{option_map}

@@ -4,7 +4,7 @@ use Rattle.register.specs.Plots.{cut, most}
 use Rattle.rehearse.proofs.asked.rehearse.Goals as goal
 use Rattle.rehearse.specs.Rehearsals.{answers_of, after_all}
 use Rattle.run.specs.Runs.{opened}
-use Rattle.std.proofs.Common.{◌≡◌, drop, ap, ◌∙◌}
+use Rattle.std.proofs.Common.{drop, ap, ◌∙◌}
 
 pub returns : goal.returns
 returns c =
