@@ -44,10 +44,3 @@ take-set zero xs p v = refl
 take-set (suc n) [] p v = refl
 take-set (suc n) (x ∷ xs) zero v = refl
 take-set (suc n) (x ∷ xs) (suc p) v = ap (λ ys. x ∷ ys) (take-set n xs p v)
-
--- what lies past the cut is not reached from below it
-pub drop-set : (n : ℕ) (xs : List ℕ) (p v : ℕ) → p < n → drop n (set xs p v) ≡ drop n xs
-drop-set zero xs p v h = absurd (omega arith)
-drop-set (suc n) [] p v h = refl
-drop-set (suc n) (x ∷ xs) zero v h = refl
-drop-set (suc n) (x ∷ xs) (suc p) v h = drop-set n xs p v (omega arith)

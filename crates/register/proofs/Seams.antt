@@ -1,9 +1,9 @@
 -- Two grounds joined: m is the number of the first's plots, and n is where the joined list is cut.
 use Rattle.std.proofs.Common.{◌≡◌, ℕ, ◌-◌, ◌<◌, ◌≤◌, List, ◌++◌, length, take, drop, set, Some, None, Option, sym, refl, ap, ◌∙◌, ⊎_elim, arith}
-use Rattle.std.proofs.lemmas.List.{length-append, get_or_append_left, get_or-append_right, set-append_left, set-append_right, length-set}
+use Rattle.std.proofs.lemmas.List.{length-append, get_or_append_left, get_or-append_right, set-append_left, set-append_right, length-set, drop-set-lt}
 use Rattle.std.proofs.lemmas.Bool.{cases_lt}
 use Rattle.register.specs.Plots.{entry_at}
-use Rattle.register.proofs.Cuts.{entry_there, entry_past, entry_cut, cut_past, set-cut_past, take-set, drop-set}
+use Rattle.register.proofs.Cuts.{entry_there, entry_past, entry_cut, cut_past, set-cut_past, take-set}
 
 entry_first : (xs ys : List ℕ) (p : ℕ) → p < length xs → entry_at (xs ++ ys) p ≡ entry_at xs p
 entry_first xs ys p h =
@@ -55,10 +55,10 @@ module _ (n : ℕ) (xs ys : List ℕ) (p m : ℕ) (e : m ≡ length xs) where
     put_past h = sym (set-cut_past n (xs ++ ys) p v (omega arith))
 
     pub rest_first : (zs : List ℕ) → p < m → length xs ≤ n → zs ≡ set xs p v → drop n (zs ++ ys) ≡ drop n (xs ++ ys)
-    rest_first zs h k q = ap (drop n) (first_whole zs h q) ∙ drop-set n (xs ++ ys) p v (omega arith)
+    rest_first zs h k q = ap (drop n) (first_whole zs h q) ∙ drop-set-lt n (xs ++ ys) p v (omega arith)
 
     pub rest_second : (zs : List ℕ) → m ≤ p → p < n → zs ≡ set ys (p - m) v → drop n (xs ++ zs) ≡ drop n (xs ++ ys)
-    rest_second zs h k q = ap (drop n) (second_whole zs h q) ∙ drop-set n (xs ++ ys) p v k
+    rest_second zs h k q = ap (drop n) (second_whole zs h q) ∙ drop-set-lt n (xs ++ ys) p v k
 
     pub seam_first : (zs : List ℕ) → zs ≡ set xs p v → length zs ≡ length xs
     seam_first zs q = ap length q ∙ length-set xs p v

@@ -1,6 +1,7 @@
 use Rattle.std.proofs.Common.{◌≤◌, min, length, sym, refl, arith}
+use Rattle.std.proofs.lemmas.List.{drop-set-lt}
 use Rattle.register.specs.Plots.{most}
-use Rattle.register.proofs.Cuts.{cut_there, cut_past, take-set, drop-set, set-cut_past, numbers_there, numbers_past}
+use Rattle.register.proofs.Cuts.{cut_there, cut_past, take-set, set-cut_past, numbers_there, numbers_past}
 use Rattle.register.proofs.flat.FlatRegister.put.Goals as goal
 
 pub returns-then-plot-lt-MOST : goal.returns-then-plot-lt-MOST
@@ -9,7 +10,7 @@ returns-then-plot-lt-MOST c =
     record {
       found = cut_there most _ _ c.if-i-self.true c.if-plot-lt-MOST.true;
       plots = take-set most xs c.args.plot c.args.entry;
-      beside = record { place = refl; rest = drop-set most xs c.args.plot c.args.entry c.if-plot-lt-MOST.true };
+      beside = record { place = refl; rest = drop-set-lt most xs c.args.plot c.args.entry c.if-plot-lt-MOST.true };
       numbers = numbers_there most xs c.args.plot c.args.entry c.if-i-self.true c.if-plot-lt-MOST.true;
     }
 
