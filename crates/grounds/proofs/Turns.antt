@@ -1,0 +1,30 @@
+-- One burial more, and the end of all burials.
+use Rattle.std.proofs.Common.{◌≡◌, ℕ, ◌+◌, ◌<◌, ◌≤◌, List, [], ◌∷◌, ◌++◌, length, get_or, drop, Option, sym, ap, ◌∙◌}
+use Rattle.std.proofs.lemmas.List.{drop_more, drop_all, append_assoc, append-nil}
+use Rattle.register.specs.Plots.{entry_at, with_entry}
+use Rattle.grounds.specs.declared.burials.Burial.{Burial}
+use Rattle.grounds.specs.Burials.{found_by, buried}
+
+-- what is read past the end of the burials
+abbrev pub none : Burial
+none = record { plot = 0; entry = 0 }
+
+-- burial i is recorded where the plots are ps, which makes them qs
+module _ (bs : List Burial) (i : ℕ) (ps qs : List ℕ) (h : i < length bs) (e : qs ≡ with_entry ps (get_or bs i none).plot (get_or bs i none).entry) where
+  pub found_turn : (found found' all : List (Option ℕ)) (r : Option ℕ) → found' ≡ found ++ r ∷ [] → r ≡ entry_at ps (get_or bs i none).plot → found ++ found_by ps (drop i bs) ≡ all → found' ++ found_by qs (drop (i + 1) bs) ≡ all
+  found_turn found found' all r f g inv =
+      ap (λ l. l ++ found_by qs (drop (i + 1) bs)) f
+      ∙ (append_assoc found (r ∷ []) (found_by qs (drop (i + 1) bs))
+      ∙ (ap (λ l. found ++ (r ∷ found_by l (drop (i + 1) bs))) e
+      ∙ (ap (λ x. found ++ (x ∷ found_by (with_entry ps (get_or bs i none).plot (get_or bs i none).entry) (drop (i + 1) bs))) g
+      ∙ (ap (λ l. found ++ found_by ps l) (sym (drop_more bs i none h)) ∙ inv))))
+
+  pub plots_turn : (all : List ℕ) → buried ps (drop i bs) ≡ all → buried qs (drop (i + 1) bs) ≡ all
+  plots_turn all inv = ap (λ l. buried l (drop (i + 1) bs)) e ∙ (ap (buried ps) (sym (drop_more bs i none h)) ∙ inv)
+
+module _ (bs : List Burial) (i : ℕ) (ps : List ℕ) (h : length bs ≤ i) where
+  pub found_end : (found all : List (Option ℕ)) → found ++ found_by ps (drop i bs) ≡ all → found ≡ all
+  found_end found all inv = sym (append-nil found) ∙ (ap (λ l. found ++ found_by ps l) (sym (drop_all i bs h)) ∙ inv)
+
+  pub plots_end : (all : List ℕ) → buried ps (drop i bs) ≡ all → ps ≡ all
+  plots_end all inv = ap (buried ps) (sym (drop_all i bs h)) ∙ inv
