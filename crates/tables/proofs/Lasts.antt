@@ -30,6 +30,14 @@ take_last k xs d p h =
     let P : ℕ → Type 0 = λ n. Some (get_or xs (k - 1) d) ≡ last_of (take n xs) in
     subst P s (sym (take-suc_last (k - 1) xs d (omega arith)))
 
+-- the last element stands at the greatest place
+pub last_of-get : {X : Type 0} (xs : List X) → slice_get xs (length xs - 1) ≡ last_of xs
+last_of-get [] = refl
+last_of-get (x ∷ []) = refl
+last_of-get (x ∷ (y ∷ ys)) =
+    let e : length (x ∷ (y ∷ ys)) - 1 ≡ suc (length (y ∷ ys) - 1) = omega arith in
+    ap (slice_get (x ∷ (y ∷ ys))) e ∙ last_of-get (y ∷ ys)
+
 -- only a list without elements has no last one
 pub none_last : {X : Type 0} (xs : List X) → None ≡ last_of xs → xs ≡ []
 none_last [] e = refl
@@ -41,12 +49,6 @@ pub map-last_of : {X Y : Type 0} (g : X → Y) (xs : List X) → option_map g (l
 map-last_of g [] = refl
 map-last_of g (x ∷ []) = refl
 map-last_of g (x ∷ (y ∷ ys)) = map-last_of g (y ∷ ys)
-
--- a row's meaning is the meaning at its place
-pub map-nth : {X Y : Type 0} (g : X → Y) (xs : List X) (i : ℕ) → option_map g (slice_get xs i) ≡ slice_get (map g xs) i
-map-nth g [] i = refl
-map-nth g (x ∷ xs) zero = refl
-map-nth g (x ∷ xs) (suc i) = map-nth g xs i
 
 -- the last row changed through `last_mut`, as a change of the list of meanings
 pub last_changed : {X Y : Type 0} (g : X → Y) (f : Y → Y) (xs ys : List X) (o w : X) → Some o ≡ last_of xs → ys ≡ in_last (λ _. w) xs → g w ≡ f (g o) → map g ys ≡ in_last f (map g xs)

@@ -17,10 +17,5 @@ pub fn find<T: Named>(records: &[T], name: &Name) -> Option<usize>
     ensures place { FirstPlace (map T.Named.name records.now) name.now.letters result }
     ensures within { IfSome result (λ i. i < length records.now) }
 {
-    for (i, record) in records.iter().enumerate() {
-        if record.name().letters == name.letters {
-            return Some(i);
-        }
-    }
-    None
+    records.iter().position(|record| record.name() == *name)
 }

@@ -5,7 +5,7 @@ ghost use Rattle.std.proofs.Math.Utf8.{encodes};
 use std::fmt;
 
 // A name of eight letters, filled with spaces at its end.
-#[derive(Clone, Copy)]
+#[derive(Clone, Copy, Debug, PartialEq, Eq)]
 pub struct Name {
     pub letters: [u8; 8],
 }
@@ -22,12 +22,7 @@ impl Name {
     pub fn is_proper(&self) -> bool
         ensures { result ≡ proper self.now.letters }
     {
-        for letter in &self.letters {
-            if !is_printed(*letter) {
-                return false;
-            }
-        }
-        true
+        self.letters.iter().all(|letter| is_printed(*letter))
     }
 
     // The letters without the spaces at their end.

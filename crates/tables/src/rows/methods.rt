@@ -4,7 +4,7 @@ ghost use Rattle.tables.specs.Lists.{last_of, pushed, roomy};
 ghost use Rattle.tables.specs.Rows.{rows_of, LastIs};
 ghost use Rattle.tables.specs.contracts.rows.Rows.{the_row};
 ghost use Rattle.std.specs.Borrow.{follows_so, sem};
-ghost use Rattle.std.specs.Prelude.{◌≡◌, not, [], length};
+ghost use Rattle.std.specs.Prelude.{◌≡◌, not, [], length, slice_set};
 
 use crate::rows::Rows;
 
@@ -35,20 +35,14 @@ impl<T, const N: usize> Rows<T, N> {
     pub fn get(&self, number: usize) -> Option<&T>
         ensures { option_map (λ x. x.now) result ≡ slice_get (rows_of self.now) number }
     {
-        if number < self.count {
-            return Some(&self.items[number]);
-        }
-        None
+        self.held().get(number)
     }
 
     // The row that came last.
     pub fn last(&self) -> Option<&T>
         ensures { option_map (λ x. x.now) result ≡ last_of (rows_of self.now) }
     {
-        if self.count > 0 {
-            return Some(&self.items[self.count - 1]);
-        }
-        None
+        self.held().last()
     }
 
     // The row that came last, lent to be changed: the table then has what was made of it in its place.
@@ -71,6 +65,15 @@ impl<T: Copy, const N: usize> Rows<T, N> {
         Rows {
             items: [fill; N],
             count: 0,
+        }
+    }
+
+    // Puts a row at that number, where there is one.
+    pub fn set(&mut self, number: usize, row: T)
+        ensures { rows_of self.new ≡ slice_set (rows_of self.old) number row }
+    {
+        if number < self.count {
+            self.items[number] = row;
         }
     }
 

@@ -1,9 +1,7 @@
-use Rattle.tables.proofs.Lasts.{take_last}
+use Rattle.std.proofs.Common.{arith, rules}
+use Rattle.tables.proofs.Lasts.{last_of-get}
 use Rattle.tables.proofs.rows.Rows.last.Goals as goal
-use Rattle.std.proofs.Common.{arith}
+use Rattle.tables.specs.Rows.{rows_of}
 
-pub returns-then-self-gt0 : goal.returns-then-self-gt0
-returns-then-self-gt0 g c =
-    let r = c.args.self.now in
-    let ok = r.ok in
-    take_last r.count r.items _ (omega arith) (omega arith)
+pub returns : goal.returns
+returns g c = search (rules, last_of-get)
