@@ -5,5 +5,6 @@ pub mod Places
 pub mod Sizes
 pub mod Steps
 pub mod Turns
+pub mod Readings
 pub mod Runs
 pub mod Law

@@ -1,3 +1,4 @@
 pub mod Refusals
 pub mod Bytes
 pub mod Format
+pub mod Readings

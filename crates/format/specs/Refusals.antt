@@ -1,5 +1,5 @@
 -- Why a file is refused, how a refusal is written, and what functions that may refuse came to.
-use Rattle.std.specs.Prelude.{ℕ, List, ◌∷◌, ◌++◌, Ok, Err, decimal, Result}
+use Rattle.std.specs.Prelude.{ℕ, List, ◌∷◌, ◌++◌, Some, None, Ok, Err, decimal, Option, Result}
 use Rattle.format.specs.declared.refusal.Refusal.TheVariants.{NoCommand, CutOff, OutOfTurn, OverCount, Outside, Undefined, Taken, MarkMissing, Unfinished}
 use Rattle.format.specs.declared.refusal.Refusal.{Refusal}
 use Rattle.format.specs.declared.refusal.Refused.{Refused}
@@ -45,3 +45,8 @@ read_as (Err e) = Err (number_of e)
 abbrev pub stepped : {X : Type 0} → Result (Bor (List ℕ)) Refusal → X → Result (X × List ℕ) ℕ
 stepped (Ok r) x = Ok (x, r.now)
 stepped (Err e) x = Err (number_of e)
+
+-- what an operand stands for, or that it is outside its stated values
+abbrev pub or_outside : {X : Type 0} → Option X → Result X Refusal
+or_outside (Some x) = Ok x
+or_outside None = Err Outside

@@ -2,4 +2,5 @@
 #![tactic(auto)]
 
 pub mod files;
+pub mod reading;
 pub mod refusal;

@@ -3,22 +3,22 @@ ghost use Rattle.format.specs.Refusals.{number_of, shown_as};
 
 use std::fmt;
 
-// Why a file was refused.
-#[derive(Clone, Copy)]
+// Why a file was refused, by number.
+#[derive(Clone, Copy, Debug, PartialEq, Eq)]
 pub enum Refusal {
-    NoCommand,
-    CutOff,
-    OutOfTurn,
-    OverCount,
-    Outside,
-    Undefined,
-    Taken,
-    MarkMissing,
-    Unfinished,
+    NoCommand = 1,
+    CutOff = 2,
+    OutOfTurn = 3,
+    OverCount = 4,
+    Outside = 5,
+    Undefined = 6,
+    Taken = 7,
+    MarkMissing = 8,
+    Unfinished = 9,
 }
 
 // A refusal and the offset of the command that met it.
-#[derive(Clone, Copy)]
+#[derive(Clone, Copy, Debug, PartialEq, Eq)]
 pub struct Refused {
     pub refusal: Refusal,
     pub offset: u32,
@@ -28,16 +28,18 @@ impl Refusal {
     pub fn number(self) -> u8
         ensures { result ≡ number_of self }
     {
-        match self {
-            Refusal::NoCommand => 1,
-            Refusal::CutOff => 2,
-            Refusal::OutOfTurn => 3,
-            Refusal::OverCount => 4,
-            Refusal::Outside => 5,
-            Refusal::Undefined => 6,
-            Refusal::Taken => 7,
-            Refusal::MarkMissing => 8,
-            Refusal::Unfinished => 9,
+        self as u8
+    }
+}
+
+impl Refused {
+    // The refusal at that offset.
+    pub(crate) fn at(refusal: Refusal, offset: u16) -> Refused
+        ensures { result ≡ record { refusal = refusal; offset = offset } }
+    {
+        Refused {
+            refusal,
+            offset: u32::from(offset),
         }
     }
 }
