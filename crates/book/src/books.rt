@@ -1,7 +1,7 @@
 // A book, and what may be asked of it.
 ghost use Rattle.book.specs.Books.{empty_book, filled};
 ghost use Rattle.book.specs.Meaning.{op_of, cl_of, book_of, op_place, cl_place, operation_places, call_places};
-ghost use Rattle.std.specs.Prelude.{◌≡◌, [], length, is_some};
+ghost use Rattle.std.specs.Prelude.{◌≡◌, [], map, length, is_some};
 ghost use Rattle.std.specs.Option.{option_map};
 ghost use Rattle.std.specs.List.{slice_get};
 ghost use Rattle.tables.specs.Lists.{last_of};
@@ -22,6 +22,22 @@ impl Book {
             operations: Rows::new(Operation::new(name, 0)),
             calls: Rows::new(Call::new(name, 0)),
         }
+    }
+
+    // The operations, in the order of the file.
+    pub fn operations(&self) -> &[Operation]
+        ensures is { map op_of result.now ≡ (book_of self.now).operations }
+        ensures places { map op_place result.now ≡ operation_places self.now }
+    {
+        self.operations.held()
+    }
+
+    // The calls, in the order of the file.
+    pub fn calls(&self) -> &[Call]
+        ensures is { map cl_of result.now ≡ (book_of self.now).calls }
+        ensures places { map cl_place result.now ≡ call_places self.now }
+    {
+        self.calls.held()
     }
 
     pub fn operation_count(&self) -> usize

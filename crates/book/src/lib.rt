@@ -5,5 +5,6 @@ pub mod books;
 pub mod calls;
 pub mod changes;
 pub mod marks;
+pub mod operands;
 pub mod operations;
 pub mod table;

@@ -16,14 +16,14 @@ pub const FIELDS: usize = 8;
 pub const STEPS: usize = 8;
 
 // What a call asks of the register: to look at a plot, or to put an entry there.
-#[derive(Clone, Copy)]
+#[derive(Clone, Copy, Debug, PartialEq, Eq)]
 pub enum Act {
     Look,
     Put,
 }
 
 // When a step after the act is taken: always, where the register's answer is not 0, or where it is 0.
-#[derive(Clone, Copy)]
+#[derive(Clone, Copy, Debug, PartialEq, Eq)]
 pub enum Condition {
     Always,
     NotZero,
@@ -31,7 +31,7 @@ pub enum Condition {
 }
 
 // A step after the act: its operation's number, and when it is taken.
-#[derive(Clone, Copy)]
+#[derive(Clone, Copy, Debug, PartialEq, Eq)]
 pub struct After {
     pub operation: u8,
     pub condition: Condition,

@@ -3,3 +3,4 @@ pub mod Policies
 pub mod Meaning
 pub mod Naming
 pub mod Walks
+pub mod Comparisons

@@ -103,10 +103,8 @@ impl Table {
     pub fn is_unfinished(&self) -> bool
         ensures { result ≡ unfinished (policy_of self.now) }
     {
-        match self.last_clause() {
-            Some(clause) => clause.action.is_none(),
-            None => false,
-        }
+        self.last_clause()
+            .is_some_and(|clause| clause.action.is_none())
     }
 
     // Whether a clause has that label.

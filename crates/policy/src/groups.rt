@@ -4,7 +4,7 @@ ghost use Rattle.policy.specs.Coverage.{applies_to, flags as flags_of, covered a
 ghost use Rattle.policy.specs.Meaning.{gr_of, policy_of};
 ghost use Rattle.policy.specs.Policies.{new_gr};
 ghost use Rattle.policy.specs.Walks.{Complete, Grown};
-ghost use Rattle.std.specs.Prelude.{◌≡◌, [], ◌∷◌};
+ghost use Rattle.std.specs.Prelude.{◌≡◌, [], ◌∷◌, length};
 
 use crate::table::{GROUPS, Group, Member, Table, Target};
 use book::table::OPERATIONS;
@@ -28,49 +28,57 @@ impl Group {
     }
 }
 
+// A walk over groups: which were walked, and for each operation whether one of them covers it.
+#[derive(Drop)]
+struct Walk {
+    walked: [bool; GROUPS],
+    covers: [bool; OPERATIONS],
+    ghost whole: { length covers ≡ 64 },
+}
+
 impl Table {
     // Flags what the group of that number covers; a group that was walked before is not walked
     // again.
-    fn walk(&self, number: usize, walked: &mut [bool; GROUPS], covers: &mut [bool; OPERATIONS])
-        requires { Complete (policy_of self.now).groups walked.old covers.old }
-        ensures complete { Complete (policy_of self.now).groups walked.new covers.new }
-        ensures grown { Grown (policy_of self.now).groups number covers.old covers.new }
+    fn walk(&self, number: usize, walk: &mut Walk)
+        requires { Complete (policy_of self.now).groups walk.old.walked walk.old.covers }
+        ensures complete { Complete (policy_of self.now).groups walk.new.walked walk.new.covers }
+        ensures grown { Grown (policy_of self.now).groups number walk.old.covers walk.new.covers }
     {
         let Some(group) = self.group(number) else {
             return;
         };
-        if walked[number] {
+        if walk.walked[number] {
             return;
         }
-        let members = group.members();
-        for listed in members {
-            let member = *listed;
-            match member {
+        for member in group.members() {
+            match *member {
                 Member::Has(operation) => {
                     let flag = operation as usize;
                     if flag < OPERATIONS {
-                        covers[flag] = true;
+                        walk.covers[flag] = true;
                     }
                 }
                 Member::Nest(nested) => {
                     let inner = nested as usize;
                     if inner < number {
-                        self.walk(inner, walked, covers);
+                        self.walk(inner, walk);
                     }
                 }
             }
         }
-        walked[number] = true;
+        walk.walked[number] = true;
     }
 
     // For each operation, whether the group of that number covers it.
     pub fn coverage(&self, number: usize) -> [bool; OPERATIONS]
         ensures { result ≡ flags_of (covered_by (policy_of self.now).groups number) }
     {
-        let mut walked = [false; GROUPS];
-        let mut covers = [false; OPERATIONS];
-        self.walk(number, &mut walked, &mut covers);
-        covers
+        let mut walk = Walk {
+            walked: [false; GROUPS],
+            covers: [false; OPERATIONS],
+        };
+        self.walk(number, &mut walk);
+        walk.covers
     }
 
     // For each operation, whether a clause with that target applies to it.

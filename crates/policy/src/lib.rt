@@ -4,6 +4,7 @@
 
 pub mod changes;
 pub mod clauses;
+pub mod comparisons;
 pub mod groups;
 pub mod naming;
 pub mod questions;

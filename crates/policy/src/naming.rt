@@ -7,27 +7,24 @@ ghost use Rattle.std.specs.Prelude.{◌≡◌};
 use crate::table::Table;
 
 // What is to be named: a call of the book, or a clause of the policy.
-#[derive(Clone, Copy)]
+#[derive(Clone, Copy, Debug, PartialEq, Eq)]
 pub enum Asked {
     Call(usize),
     Clause(usize),
 }
 
-// Why there is no name to hand out.
-#[derive(Clone, Copy)]
+// Why there is no name to hand out, by number.
+#[derive(Clone, Copy, Debug, PartialEq, Eq)]
 pub enum NamingRefusal {
-    NoSuchNumber,
-    EndsTooEarly,
+    NoSuchNumber = 25,
+    EndsTooEarly = 26,
 }
 
 impl NamingRefusal {
     pub fn number(self) -> u8
         ensures { result ≡ naming_number self }
     {
-        match self {
-            NamingRefusal::NoSuchNumber => 25,
-            NamingRefusal::EndsTooEarly => 26,
-        }
+        self as u8
     }
 }
 
@@ -36,14 +33,12 @@ fn eight_at(bytes: &[u8], place: u32) -> Result<&[u8], NamingRefusal>
     ensures { handed result ≡ eight_at bytes.now place }
 {
     let from = place as usize;
-    if bytes.len() < from + 8 {
-        return Err(NamingRefusal::EndsTooEarly);
-    }
-    Ok(&bytes[from..from + 8])
+    bytes.get(from..from + 8).ok_or(NamingRefusal::EndsTooEarly)
 }
 
 // The eight bytes of a call's name, a part of the book's file, or of a clause's label, a part of the
 // policy's, at the place found in reading.
+#[tactic(auto, using(crate::proofs::Handing::hands_out))]
 pub fn name_of<'a>(
     table: &Table,
     asked: Asked,
@@ -54,13 +49,16 @@ pub fn name_of<'a>(
     ensures hands { HandsOut (call_places table.now.book) (label_places table.now) asked book.now policy.now (handed result) }
 {
     match asked {
-        Asked::Call(number) => match table.book().call(number) {
-            Some(call) => eight_at(book, call.place()),
-            None => Err(NamingRefusal::NoSuchNumber),
-        },
-        Asked::Clause(number) => match table.clause(number) {
-            Some(clause) => eight_at(policy, clause.place()),
-            None => Err(NamingRefusal::NoSuchNumber),
-        },
+        Asked::Call(number) => {
+            let call = table
+                .book()
+                .call(number)
+                .ok_or(NamingRefusal::NoSuchNumber)?;
+            eight_at(book, call.place())
+        }
+        Asked::Clause(number) => {
+            let clause = table.clause(number).ok_or(NamingRefusal::NoSuchNumber)?;
+            eight_at(policy, clause.place())
+        }
     }
 }

@@ -7,8 +7,9 @@ ghost use Rattle.std.specs.Prelude.{◌≡◌, [], map, length, is_some};
 ghost use Rattle.std.specs.Option.{option_map};
 ghost use Rattle.std.specs.List.{slice_get};
 ghost use Rattle.tables.specs.Lists.{last_of};
+ghost use Rattle.tables.specs.Rows.{rows_of};
 
-use crate::table::{Clause, Group, Table, Target, Term};
+use crate::table::{CELLS, Clause, Group, Table, Target, Term};
 use book::marks::has;
 use book::table::{Book, OPERATIONS};
 use tables::name::Name;
@@ -53,6 +54,21 @@ impl Table {
         ensures { result.now ≡ (policy_of self.now).cells }
     {
         self.cells.held()
+    }
+
+    // The table of the cells' first values.
+    pub fn first_values(&self) -> Rows<u32, CELLS>
+        ensures { rows_of result ≡ (policy_of self.now).cells }
+    {
+        let Table { cells, .. } = self;
+        *cells
+    }
+
+    // The groups, in the order of the file.
+    pub fn groups(&self) -> &[Group]
+        ensures { map gr_of result.now ≡ (policy_of self.now).groups }
+    {
+        self.groups.held()
     }
 
     pub fn group_count(&self) -> usize
@@ -125,9 +141,7 @@ impl Table {
     fn has_mark(&self, number: usize, mark: u8) -> bool
         ensures { result ≡ has_mark (marks_at (book_of self.now.book).operations number) mark }
     {
-        match self.book.operation(number) {
-            Some(operation) => has(operation.marks(), mark),
-            None => false,
-        }
+        let operation = self.book.operation(number);
+        operation.is_some_and(|operation| has(operation.marks(), mark))
     }
 }

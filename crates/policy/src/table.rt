@@ -17,7 +17,7 @@ pub const MEMBERS: usize = 16;
 pub const WHENS: usize = 3;
 
 // What an action does to its cell: it stores a value, adds it or takes it away.
-#[derive(Clone, Copy)]
+#[derive(Clone, Copy, Debug, PartialEq, Eq)]
 pub enum Write {
     Set,
     Add,
@@ -25,7 +25,7 @@ pub enum Write {
 }
 
 // A value that a clause reads: a number, the field of a mark, or a cell.
-#[derive(Clone, Copy)]
+#[derive(Clone, Copy, Debug, PartialEq, Eq)]
 pub enum Term {
     Number(u32),
     Field(u8),
@@ -33,7 +33,7 @@ pub enum Term {
 }
 
 // How the left term of a condition compares with its right one.
-#[derive(Clone, Copy)]
+#[derive(Clone, Copy, Debug, PartialEq, Eq)]
 pub enum Comparison {
     Equal,
     Unequal,
@@ -42,7 +42,7 @@ pub enum Comparison {
 }
 
 // A condition of a clause.
-#[derive(Clone, Copy)]
+#[derive(Clone, Copy, Debug, PartialEq, Eq)]
 pub struct When {
     pub comparison: Comparison,
     pub left: Term,
@@ -51,21 +51,21 @@ pub struct When {
 
 // What a clause does where all its conditions hold: it ends the step with a violation, or writes a
 // cell.
-#[derive(Clone, Copy)]
+#[derive(Clone, Copy, Debug, PartialEq, Eq)]
 pub enum Action {
     Violate,
     Write(Write, u8, Term),
 }
 
 // A member of a group: an operation, or a group of a lower number.
-#[derive(Clone, Copy)]
+#[derive(Clone, Copy, Debug, PartialEq, Eq)]
 pub enum Member {
     Has(u8),
     Nest(u8),
 }
 
 // What a clause is on: an operation, or a group.
-#[derive(Clone, Copy)]
+#[derive(Clone, Copy, Debug, PartialEq, Eq)]
 pub enum Target {
     Operation(u8),
     Group(u8),

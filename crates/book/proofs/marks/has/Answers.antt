@@ -1,13 +1,12 @@
-use Rattle.std.proofs.Common.{ℕ, List, arith, rules}
+use Rattle.std.proofs.Common.{◌≡◌, ℕ, eqb, List, [], ◌∷◌, ◌||◌, refl, ap, ◌∙◌, rules}
 use Rattle.book.proofs.marks.has.Goals as goal
 use Rattle.book.specs.Books.{has}
-use Rattle.std.proofs.lemmas.List.{at_drop_more, at_drop_all}
+use Rattle.std.specs.List.{list_any}
 
-pub loop-other-preserved : goal.loop-other-preserved
-loop-other-preserved c = let e = at_drop_more (λ (xs : List ℕ). has xs c.args.mark) c.args.marks.now c.loop-other.other-index 0 (omega arith) in search rules
+-- some mark is it exactly when it is one of them
+any_is : (ms : List ℕ) (m : ℕ) → list_any (λ n. eqb n m) ms ≡ has ms m
+any_is [] m = refl
+any_is (n ∷ ns) m = ap (λ b. eqb n m || b) (any_is ns m)
 
 pub returns : goal.returns
-returns c = let e = at_drop_all (λ (xs : List ℕ). has xs c.args.mark) c.args.marks.now c.loop-other.other-index (omega arith) in search rules
-
-pub returns-then-other-mark : goal.returns-then-other-mark
-returns-then-other-mark c = let e = at_drop_more (λ (xs : List ℕ). has xs c.args.mark) c.args.marks.now c.loop-other.other-index 0 (omega arith) in search rules
+returns c = c.contains.ensures.value ∙ any_is c.args.marks.now c.args.mark

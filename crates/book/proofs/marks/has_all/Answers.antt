@@ -1,25 +1,20 @@
-use Rattle.std.proofs.Common.{ℕ, List, ◌++◌, get_or, arith, rules}
+use Rattle.std.proofs.Common.{◌≡◌, ℕ, List, [], ◌∷◌, ◌++◌, ◌||◌, ◌&&◌, refl, ap₂, sym, ◌∙◌, rules}
 use Rattle.book.proofs.Sets.{has_append}
 use Rattle.book.proofs.marks.has_all.Goals as goal
-use Rattle.book.specs.Books.{has_all}
-use Rattle.std.proofs.lemmas.List.{at_drop_more, at_drop_all}
+use Rattle.book.specs.Books.{has, has_all}
+use Rattle.std.proofs.lemmas.Iterator.{YieldsList-from_slice}
+use Rattle.std.proofs.lemmas.Iterator.Search.{all_from_yields_List}
+use Rattle.std.specs.List.{list_all}
+use borrow.Author.Tests.{tests}
 
-pub loop-mark-preserved : goal.loop-mark-preserved
-loop-mark-preserved c =
-    let marks = c.args.given.now ++ c.args.fields.now in
-    let a = has_append c.args.given.now c.args.fields.now (get_or c.args.needed.now c.loop-mark.mark-index 0) in
-    let e = at_drop_more (λ (xs : List ℕ). has_all marks xs) c.args.needed.now c.loop-mark.mark-index 0 (omega arith) in
-    search rules
+-- each is one of two lists' marks when it is one of either's
+all_are : (xs ys ms : List ℕ) → list_all (λ m. has xs m || has ys m) ms ≡ has_all (xs ++ ys) ms
+all_are xs ys [] = refl
+all_are xs ys (m ∷ ms) = ap₂ ◌&&◌ (sym (has_append xs ys m)) (all_are xs ys ms)
 
 pub returns : goal.returns
 returns c =
-    let marks = c.args.given.now ++ c.args.fields.now in
-    let e = at_drop_all (λ (xs : List ℕ). has_all marks xs) c.args.needed.now c.loop-mark.mark-index (omega arith) in
-    search rules
-
-pub returns-then-not-has-2 : goal.returns-then-not-has-2
-returns-then-not-has-2 c =
-    let marks = c.args.given.now ++ c.args.fields.now in
-    let a = has_append c.args.given.now c.args.fields.now (get_or c.args.needed.now c.loop-mark.mark-index 0) in
-    let e = at_drop_more (λ (xs : List ℕ). has_all marks xs) c.args.needed.now c.loop-mark.mark-index 0 (omega arith) in
-    search rules
+    let xs = c.args.given.now in
+    let ys = c.args.fields.now in
+    let ms = c.args.needed.now in
+    all_from_yields_List (λ m. has xs m || has ys m) _ _ c.all.result c.all.ensures.ran (YieldsList-from_slice ms cc) (λ x b q k. search (rules, tests)) ∙ all_are xs ys ms

@@ -9,28 +9,28 @@ returns-in_default t c = record {
   grown = none_grown _ _ _ c.in_default.ensures;
 }
 
-pub bounds-walked-number : goal.bounds-walked-number
-bounds-walked-number t c = group_within c.args.self.now c.args.number (gr_of c.in-Some.group.now) c.in-Some.ensures
+pub bounds-walk-number : goal.bounds-walk-number
+bounds-walk-number t c = group_within c.args.self.now c.args.number (gr_of c.in-Some.group.now) c.in-Some.ensures
 
-pub bounds-walked-number-2 : goal.bounds-walked-number-2
-bounds-walked-number-2 t c = group_within c.args.self.now c.args.number (gr_of c.in-Some.group.now) c.in-Some.ensures
+pub bounds-walk-number-2 : goal.bounds-walk-number-2
+bounds-walk-number-2 t c = group_within c.args.self.now c.args.number (gr_of c.in-Some.group.now) c.in-Some.ensures
 
-pub loop-listed-preserved : goal.loop-listed-preserved
-loop-listed-preserved t c =
+pub loop-member-preserved : goal.loop-member-preserved
+loop-member-preserved t c =
     let gs = (policy_of c.args.self.now).groups in
-    let mine = members_are gs c.args.number (gr_of c.in-Some.group.now) c.in-Some.ensures ∙ sym c.members-members.ensures in
+    let mine = members_are gs c.args.number (gr_of c.in-Some.group.now) c.in-Some.ensures ∙ sym c.members-member-items.ensures in
     elim c.match-member.branch [
-      | goal.in-Has+then-flag-lt-OPERATIONS w ↦ rw (w.walked-is, w.covers-is) (at_has gs _ _ mine _ _ _ _ c.loop-listed.invariant c.loop-listed-test.true _ w.in-Has.is (omega arith) w.if-flag-lt-OPERATIONS.true)
-      | goal.in-Has+else-flag-lt-OPERATIONS w ↦ rw (w.walked-is, w.covers-is) (at_has_over gs _ _ mine _ _ _ _ c.loop-listed.invariant c.loop-listed-test.true _ w.in-Has.is w.if-flag-lt-OPERATIONS.false)
-      | goal.in-Nest+then-inner-number w ↦ rw (w.walked-is, w.covers-is) (at_nest gs _ _ mine _ _ _ _ c.loop-listed.invariant c.loop-listed-test.true _ w.in-Nest.is w.if-inner-number.true _ _ w.walk.ensures.complete w.walk.ensures.grown)
-      | goal.in-Nest+else-inner-number w ↦ rw (w.walked-is, w.covers-is) (at_nest_over gs _ _ mine _ _ _ _ c.loop-listed.invariant c.loop-listed-test.true _ w.in-Nest.is w.if-inner-number.false)
+      | goal.in-Has+then-flag-lt-OPERATIONS w ↦ rw w.walk-is (at_has gs _ _ mine _ _ _ _ c.loop-member.invariant c.loop-member-test.true _ w.in-Has.is (omega arith) w.if-flag-lt-OPERATIONS.true)
+      | goal.in-Has+else-flag-lt-OPERATIONS w ↦ rw w.walk-is (at_has_over gs _ _ mine _ _ _ _ c.loop-member.invariant c.loop-member-test.true _ w.in-Has.is w.if-flag-lt-OPERATIONS.false)
+      | goal.in-Nest+then-inner-number w ↦ rw w.walk-is (at_nest gs _ _ mine _ _ _ _ c.loop-member.invariant c.loop-member-test.true _ w.in-Nest.is w.if-inner-number.true _ _ w.walk.ensures.complete w.walk.ensures.grown)
+      | goal.in-Nest+else-inner-number w ↦ rw w.walk-is (at_nest_over gs _ _ mine _ _ _ _ c.loop-member.invariant c.loop-member-test.true _ w.in-Nest.is w.if-inner-number.false)
     ]
 
 pub returns : goal.returns
 returns t c =
     let gs = (policy_of c.args.self.now).groups in
-    let mine = members_are gs c.args.number (gr_of c.in-Some.group.now) c.in-Some.ensures ∙ sym c.members-members.ensures in
+    let mine = members_are gs c.args.number (gr_of c.in-Some.group.now) c.in-Some.ensures ∙ sym c.members-member-items.ensures in
     record {
-      complete = complete gs _ _ mine _ _ _ _ c.loop-listed.invariant c.loop-listed-test.false;
-      grown = grown gs _ _ mine _ _ _ _ c.loop-listed.invariant c.loop-listed-test.false;
+      complete = complete gs _ _ mine _ _ _ _ c.loop-member.invariant c.loop-member-test.false;
+      grown = grown gs _ _ mine _ _ _ _ c.loop-member.invariant c.loop-member-test.false;
     }

@@ -7,5 +7,5 @@ abbrev pub decreases-walk : goal.decreases-walk
 decreases-walk l = l.number
 
 -- What the members so far bring is flagged.
-abbrev pub invariant-loop-listed : goal.invariant-loop-listed
-invariant-loop-listed l = Kept (policy_of l.self).groups l.number l.members l.listed-index l.walked l.initial.covers l.covers
+abbrev pub invariant-loop-member : goal.invariant-loop-member
+invariant-loop-member l = Kept (policy_of l.self).groups l.number l.member-items l.member-index l.walk.walked l.initial.walk.covers l.walk.covers
