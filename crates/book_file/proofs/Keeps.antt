@@ -1,5 +1,5 @@
 -- A command that no test speaks against makes a lawful book of a lawful book, which is written as before with the command at the end.
-use Rattle.std.proofs.Common.{◌≡◌, ℕ, false, eqb, List, [], ◌∷◌, ◌++◌, map, is_some, Some, None, Option, sym, refl, ap, ◌∙◌, subst, arith}
+use Rattle.std.proofs.Common.{◌≡◌, ℕ, false, eqb, List, [], ◌∷◌, ◌++◌, map, Some, None, Option, sym, refl, ap, ◌∙◌, subst, arith}
 use Rattle.book.specs.Books.{Op, Cl, Bk, new_op, new_cl, op_name, cl_name, or_else, marked, fielded, preceded, acting, followed, after_of, filled, full, named, act_needs}
 use Rattle.book.specs.declared.table.Act.{Act}
 use Rattle.book.specs.declared.table.After.{After}
@@ -16,9 +16,10 @@ use Rattle.book_file.specs.declared.commands.Command.{Command}
 use Rattle.std.proofs.ByRecursion.{All-push}
 use Rattle.std.proofs.lemmas.List.{length_push, flat_map_more, append-nil, append_assoc, map_push}
 use Rattle.std.proofs.lemmas.Bool.{or_parts, false≢true}
+use Rattle.std.proofs.lemmas.Option.{none-some}
 use Rattle.std.specs.List.{ContainsAt as Has, flat_map, AllByRecursion}
 use Rattle.tables.specs.declared.name.Name.{Name}
-use borrow.Author.Tests.{eqb-false}
+use Rattle.std.proofs.lemmas.Bool.{eqb-false}
 
 -- a is lawful and written as b with the command at the end
 abbrev Kept : Bk → Command → Bk → Type 0
@@ -129,12 +130,9 @@ after_cl os cs n fs bs (Some a) ss k q s h l =
     let met = met_there os (answered c) k h.defined (sym (after_lacking os cs c k q) ∙ h.met) in
     let last : AFTER k (condition_number v.0) ≡ AFTER k q = ap (λ (i : ℕ). AFTER k i) (sym v.2) in
     subst (Kept (book os (cs ++ c ∷ [])) (AFTER k q)) (sym (after_obey os cs c k q ∙ ap (λ (o : Option Condition). book os (cs ++ followed k o c ∷ [])) v.1)) (
-      swap_cl os cs c (followed k (Some v.0) c) refl (λ w. record { name = w.name; fields = w.fields; unanswered = w.unanswered; few_befores = w.few_befores; few_afters = omega (arith, length_push ss z, full_less 8 ss (sym (after_crowded os cs c k q) ∙ h.room)); befores_met = w.befores_met; act_met = w.act_met; afters_met = All-push (λ t. Met os (answered c) t.operation) ss z w.afters_met met; afters_acted = λ e. absurd (some_none a e) }) l,
+      swap_cl os cs c (followed k (Some v.0) c) refl (λ w. record { name = w.name; fields = w.fields; unanswered = w.unanswered; few_befores = w.few_befores; few_afters = omega (arith, length_push ss z, full_less 8 ss (sym (after_crowded os cs c k q) ∙ h.room)); befores_met = w.befores_met; act_met = w.act_met; afters_met = All-push (λ t. Met os (answered c) t.operation) ss z w.afters_met met; afters_acted = λ e. absurd (none-some a (sym e)) }) l,
       grown_cl os cs c (followed k (Some v.0) c) (AFTER k q) (ap (λ (y : List Command). Call n ∷ y) (grown (map as_field fs) (map as_before bs ++ (as_act (Some a) ++ map as_after ss)) (map as_before bs ++ (as_act (Some a) ++ map as_after (ss ++ z ∷ []))) (AFTER k q) (grown (map as_before bs) (as_act (Some a) ++ map as_after ss) (as_act (Some a) ++ map as_after (ss ++ z ∷ [])) (AFTER k q) (ap (λ (y : List Command). ACT (act_number a) ∷ y) (map_push as_after ss z ∙ ap (λ (y : Command). map as_after ss ++ y ∷ []) last))))),
     )
-  where
-    some_none : (a : Act) → ◌≡◌ {A = Option Act} (Some a) None → ⊥
-    some_none a e = false≢true (ap is_some (sym e))
 after_cl os cs n fs bs None ss k q s h l = absurd (false≢true (sym (sym (after_misplaced os cs (call n fs bs None ss) k q) ∙ h.placed)))
 
 -- The same wherever the book ends.

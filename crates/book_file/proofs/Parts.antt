@@ -1,5 +1,5 @@
 -- The tests on parts of a book, as the plain conditions that they decide.
-use Rattle.std.proofs.Common.{◌≡◌, ℕ, zero, suc, ◌+◌, ◌<◌, ◌≤◌, Bool, true, false, cond, not, ◌&&◌, eqb, leb, List, [], ◌∷◌, ◌++◌, length, is_some, Some, None, Decides, sym, refl, le_of_suc-le-suc, not-suc-le-zero, arith, ltb-true, ne_eqb, eqb-true, le-leb, leb-true}
+use Rattle.std.proofs.Common.{◌≡◌, ℕ, suc, ◌+◌, ◌<◌, ◌≤◌, Bool, true, false, cond, not, ◌&&◌, eqb, List, [], ◌∷◌, ◌++◌, length, is_some, Some, None, Option, Decides, refl, arith, ltb-true, ne_eqb, le-leb}
 use Rattle.book.proofs.Sets.{has_decides}
 use Rattle.book.specs.Books.{Op, marks_at, has, has_all, full, named}
 use Rattle.book.specs.declared.table.Act.TheVariants.{Look, Put}
@@ -11,14 +11,15 @@ use Rattle.book_file.specs.Operands.{act_of, condition_of}
 use Rattle.std.proofs.ByRecursion.{All-push, Decides-by_and}
 use Rattle.std.proofs.lemmas.Slice.Eq.{bytes_eq-Decides}
 use Rattle.std.proofs.lemmas.List.{length-append, length_push}
-use Rattle.std.proofs.lemmas.Bool.{or_parts, or_from, not_from_true, false≢true}
-use Rattle.std.proofs.lemmas.Bool.Decides.{not_from_Decides}
+use Rattle.std.proofs.lemmas.Option.{slice_get_cases}
+use Rattle.std.proofs.lemmas.Bool.{or_parts, false_from_ne_true, or_from, not_from_true}
+use Rattle.std.proofs.lemmas.Bool.Decides.{not_from_Decides, nat_tests}
 use Rattle.std.specs.List.{ContainsAt as Has, AllByRecursion, slice_get}
 use Rattle.std.specs.Str.{bytes_eq}
 use Rattle.tables.specs.Lists.{roomy}
 use Rattle.tables.specs.Names.{prints, proper}
 use Rattle.tables.specs.Search.{first_from}
-use borrow.Author.Tests.{eqb-false, not-false}
+use Rattle.std.proofs.lemmas.Bool.{eqb-false, not-false}
 
 -- what holds of all holds of one in the middle
 pub all_mid : {X : Type 0} (P : X → Type 0) (xs : List X) (y : X) (ys : List X) → AllByRecursion P (xs ++ y ∷ ys) → P y
@@ -48,21 +49,15 @@ less_full n xs h = not_from_true (roomy n xs) (le-leb (suc (length xs)) n h)
 
 -- Names.
 
-is_false : (t : Bool) {P : Type 0} → Decides t P → (P → ⊥) → t ≡ false
-is_false true d n = absurd (n (d.0 refl))
-is_false false d n = refl
-
 out_from : (i : ℕ) (xs : List (List ℕ)) (x : List ℕ) → is_some (first_from i xs x) ≡ false → AllByRecursion (λ y. y ≡ x → ⊥) xs
 out_from i [] x h = tt
-out_from i (y ∷ ys) x h = at (bytes_eq y x) refl h (out_from (i + 1) ys x)
-  where
-    at : (t : Bool) → bytes_eq y x ≡ t → is_some (cond t (Some i) (first_from (i + 1) ys x)) ≡ false → (is_some (first_from (i + 1) ys x) ≡ false → AllByRecursion (λ z. z ≡ x → ⊥) ys) → AllByRecursion (λ z. z ≡ x → ⊥) (y ∷ ys)
-    at true e h f = absurd (false≢true (sym h))
-    at false e h f = (not_from_Decides (bytes_eq y x) (bytes_eq-Decides y x) e, f h)
+out_from i (y ∷ ys) x h =
+    let p : (bytes_eq y x ≡ false) × (is_some (first_from (i + 1) ys x) ≡ false) = grind arith in
+    (not_from_Decides (bytes_eq y x) (bytes_eq-Decides y x) p.0, out_from (i + 1) ys x p.1)
 
 from_out : (i : ℕ) (xs : List (List ℕ)) (x : List ℕ) → AllByRecursion (λ y. y ≡ x → ⊥) xs → is_some (first_from i xs x) ≡ false
 from_out i [] x h = refl
-from_out i (y ∷ ys) x h = rw (is_false (bytes_eq y x) (bytes_eq-Decides y x) h.0) (from_out (i + 1) ys x h.1)
+from_out i (y ∷ ys) x h = rw (false_from_ne_true (bytes_eq y x) (λ e. h.0 ((bytes_eq-Decides y x).0 e))) (from_out (i + 1) ys x h.1)
 
 pub named_out : (xs : List (List ℕ)) (x : List ℕ) → named xs x ≡ false → AllByRecursion (λ y. y ≡ x → ⊥) xs
 named_out = out_from 0
@@ -75,11 +70,7 @@ cond_and true u = refl
 cond_and false u = refl
 
 prints_decides : (x : ℕ) → Decides (prints x) (Prints x)
-prints_decides x = (at (leb 32 x) refl, λ h. rw (le-leb 32 x h.0) (le-leb x 126 h.1))
-  where
-    at : (t : Bool) → leb 32 x ≡ t → cond t (leb x 126) false ≡ true → Prints x
-    at true e h = (leb-true 32 x e, leb-true x 126 h)
-    at false e h = absurd (false≢true h)
+prints_decides x = grind (arith, nat_tests)
 
 proper_decides : (xs : List ℕ) → Decides (proper xs) (AllByRecursion Prints xs)
 proper_decides xs = Decides-by_and prints Prints proper prints_decides refl (λ y ys. cond_and (prints y) (proper ys)) xs
@@ -131,14 +122,10 @@ marks_mid most ds m ms h =
 -- Operations by number.
 
 pub nth_less : {X : Type 0} (xs : List X) (k : ℕ) → is_some (slice_get xs k) ≡ true → k < length xs
-nth_less [] k h = absurd (false≢true h)
-nth_less (x ∷ xs) zero h = omega arith
-nth_less (x ∷ xs) (suc k) h = let l = nth_less xs k h in omega arith
+nth_less xs k h = grind (arith, slice_get_cases xs k)
 
 pub less_nth : {X : Type 0} (xs : List X) (k : ℕ) → k < length xs → is_some (slice_get xs k) ≡ true
-less_nth [] k h = absurd (not-suc-le-zero h)
-less_nth (x ∷ xs) zero h = refl
-less_nth (x ∷ xs) (suc k) h = less_nth xs k (le_of_suc-le-suc h)
+less_nth xs k h = grind (arith, slice_get_cases xs k)
 
 pub met_there : (ops : List Op) (ms : List ℕ) (k : ℕ) → not (is_some (slice_get ops k)) ≡ false → not (has_all ms (marks_at ops k)) ≡ false → Met ops ms k
 met_there ops ms k p q = record { defined = nth_less ops k (not-false (is_some (slice_get ops k)) p); filled = has_all_true ms (marks_at ops k) q }
@@ -152,25 +139,25 @@ met_filled ops ms k h = all_has ms (marks_at ops k) h.filled
 -- Acts and conditions by number.
 
 pub act_is : (a : ℕ) → not (is_some (act_of a)) ≡ false → (x : Act) × (act_of a ≡ Some x) × (a ≡ act_number x)
-act_is a h = at (eqb a 1) (eqb a 2) refl refl h
+act_is a h = at (act_of a) refl
   where
-    at : (t u : Bool) → eqb a 1 ≡ t → eqb a 2 ≡ u → not (is_some (cond t (Some Look) (cond u (Some Put) None))) ≡ false → (x : Act) × (cond t (Some Look) (cond u (Some Put) None) ≡ Some x) × (a ≡ act_number x)
-    at true u e f h = (Look, refl, eqb-true a 1 e)
-    at false true e f h = (Put, refl, eqb-true a 2 f)
-    at false false e f h = absurd (false≢true (sym h))
+    at : (o : Option Act) → act_of a ≡ o → (x : Act) × (act_of a ≡ Some x) × (a ≡ act_number x)
+    at None e = grind arith
+    at (Some Look) e = (Look, e, grind (arith, nat_tests))
+    at (Some Put) e = (Put, e, grind (arith, nat_tests))
 
 pub act_back : (x : Act) → act_of (act_number x) ≡ Some x
 act_back Look = refl
 act_back Put = refl
 
 pub condition_is : (q : ℕ) → not (is_some (condition_of q)) ≡ false → (x : Condition) × (condition_of q ≡ Some x) × (q ≡ condition_number x)
-condition_is q h = at (eqb q 0) (eqb q 1) (eqb q 2) refl refl refl h
+condition_is q h = at (condition_of q) refl
   where
-    at : (t u v : Bool) → eqb q 0 ≡ t → eqb q 1 ≡ u → eqb q 2 ≡ v → not (is_some (cond t (Some Always) (cond u (Some NotZero) (cond v (Some Zero) None)))) ≡ false → (x : Condition) × (cond t (Some Always) (cond u (Some NotZero) (cond v (Some Zero) None)) ≡ Some x) × (q ≡ condition_number x)
-    at true u v e f g h = (Always, refl, eqb-true q 0 e)
-    at false true v e f g h = (NotZero, refl, eqb-true q 1 f)
-    at false false true e f g h = (Zero, refl, eqb-true q 2 g)
-    at false false false e f g h = absurd (false≢true (sym h))
+    at : (o : Option Condition) → condition_of q ≡ o → (x : Condition) × (condition_of q ≡ Some x) × (q ≡ condition_number x)
+    at None e = grind arith
+    at (Some Always) e = (Always, e, grind (arith, nat_tests))
+    at (Some NotZero) e = (NotZero, e, grind (arith, nat_tests))
+    at (Some Zero) e = (Zero, e, grind (arith, nat_tests))
 
 pub condition_back : (x : Condition) → condition_of (condition_number x) ≡ Some x
 condition_back Always = refl

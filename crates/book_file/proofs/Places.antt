@@ -48,7 +48,7 @@ module _ (behind : Command → Option ℕ) (h : Begun behind) where
       (quiet_append bytes_of behind a ss (quiet_act c.act) (quiet_map bytes_of behind as_after (λ s. h.afters _ _) c.afters)))
 
 -- a name stands behind the first byte of the commands that it begins
-name_there : (n j rest : List ℕ) → take (length n) ((n ++ j) ++ rest) ≡ n
+pub name_there : (n j rest : List ℕ) → take (length n) ((n ++ j) ++ rest) ≡ n
 name_there n j rest = ap (take (length n)) (append_assoc n j rest) ∙ take_at n (j ++ rest) (length n) refl
 
 operation_named : (o : Op) → Named bytes_of operation_name of_op op_name 1 o

@@ -3,3 +3,4 @@ pub mod Operands
 pub mod Changes
 pub mod Tests
 pub mod Law
+pub mod Reading

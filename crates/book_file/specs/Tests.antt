@@ -1,5 +1,5 @@
 -- What may speak against a command, in the order of the refusals' numbers; each test sees the book as read so far and the command.
-use Rattle.std.specs.Prelude.{ℕ, Bool, true, false, not, ◌||◌, List, [], ◌∷◌, map, is_some, Result, ◌==◌}
+use Rattle.std.specs.Prelude.{ℕ, Bool, true, false, cond, not, ◌||◌, List, [], ◌∷◌, map, is_some, Ok, Err, Result, ◌==◌}
 use Rattle.book.specs.Books.{Cl, Bk, or_else, op_name, cl_name, marks_at, filled, full, has, has_all, named, act_needs}
 use Rattle.book_file.specs.Changes.{obey}
 use Rattle.book_file.specs.Commands.{command_at, unknown}
@@ -25,6 +25,10 @@ begun c = filled c.befores || acted c
 -- the marks with which a call fills an AFTER: its fields and the register's answer
 abbrev pub answered : Cl → List ℕ
 answered c = 255 ∷ c.fields
+
+-- a mark beside others, of which there may be so many, and none of the reserved ones; or the number of the first test that speaks against it
+abbrev pub mark_judged : List ℕ → ℕ → List ℕ → ℕ → Result (Unit {0}) ℕ
+mark_judged marks most reserved m = cond (full most marks) (Err 4) (cond (has reserved m) (Err 5) (cond (has marks m) (Err 7) (Ok tt)))
 
 -- The tests from 3 on.
 

@@ -1,8 +1,8 @@
 // What each command does to a book: the tests in the order of their numbers, and then the change.
-ghost use Rattle.std.specs.Prelude.{◌≡◌, ◌≤◌, [], ◌∷◌, ◌++◌, OnOk};
+ghost use Rattle.std.specs.Prelude.{◌≡◌, [], ◌∷◌, ◌++◌, OnOk};
 ghost use Rattle.book.specs.Meaning.{cl_of, book_of, operation_places, call_places};
 ghost use Rattle.book_file.specs.Law.{operation_name, call_name};
-ghost use Rattle.book_file.specs.Tests.{judged, begun};
+ghost use Rattle.book_file.specs.Tests.{judged, begun, mark_judged};
 ghost use Rattle.book_file.specs.declared.commands.Command.TheVariants.{Operation as OPERATION, Field as FIELD, Call as CALL, Before as BEFORE, Act as ACT, After as AFTER};
 ghost use Rattle.format.specs.Format.{place_of};
 ghost use Rattle.format.specs.Refusals.{told};
@@ -21,7 +21,23 @@ const ANSWER: u8 = 255;
 fn has_begun(call: &Call) -> bool
     ensures { result ≡ begun (cl_of call.now) }
 {
-    call.befores().len() > 0 || call.act().is_some()
+    !call.befores().is_empty() || call.act().is_some()
+}
+
+// The tests on one more mark beside those, of which there may be so many, and none that is reserved.
+fn check_mark(marks: &[u8], most: usize, reserved: &[u8], mark: u8) -> Result<(), Refusal>
+    ensures { told result tt ≡ mark_judged marks.now most reserved.now mark }
+{
+    if marks.len() >= most {
+        return Err(Refusal::OverCount);
+    }
+    if has(reserved, mark) {
+        return Err(Refusal::Outside);
+    }
+    if has(marks, mark) {
+        return Err(Refusal::Taken);
+    }
+    Ok(())
 }
 
 // OPERATION: begins an operation, whose name stands at that place in the file.
@@ -75,32 +91,14 @@ fn add_field(book: &mut Book, mark: u8) -> Result<(), Refusal>
         if has_begun(call) {
             return Err(Refusal::OutOfTurn);
         }
-        if call.fields().len() >= FIELDS {
-            return Err(Refusal::OverCount);
-        }
-        if mark == 0 || mark == ANSWER {
-            return Err(Refusal::Outside);
-        }
-        if has(call.fields(), mark) {
-            return Err(Refusal::Taken);
-        }
+        check_mark(call.fields(), FIELDS, &[0, ANSWER], mark)?;
         book.push_field(mark);
-        Ok(())
-    } else if let Some(operation) = book.last_operation() {
-        if operation.marks().len() >= MARKS {
-            return Err(Refusal::OverCount);
-        }
-        if mark == 0 {
-            return Err(Refusal::Outside);
-        }
-        if has(operation.marks(), mark) {
-            return Err(Refusal::Taken);
-        }
-        book.push_mark(mark);
-        Ok(())
     } else {
-        Err(Refusal::OutOfTurn)
+        let operation = book.last_operation().ok_or(Refusal::OutOfTurn)?;
+        check_mark(operation.marks(), MARKS, &[0], mark)?;
+        book.push_mark(mark);
     }
+    Ok(())
 }
 
 // BEFORE: one more step before the act of the call begun last.
@@ -109,18 +107,14 @@ fn add_before(book: &mut Book, number: u8) -> Result<(), Refusal>
     ensures operations { operation_places book.new ≡ operation_places book.old }
     ensures calls { call_places book.new ≡ call_places book.old }
 {
-    let Some(call) = book.last_call() else {
-        return Err(Refusal::OutOfTurn);
-    };
+    let call = book.last_call().ok_or(Refusal::OutOfTurn)?;
     if call.act().is_some() {
         return Err(Refusal::OutOfTurn);
     }
     if call.befores().len() >= STEPS {
         return Err(Refusal::OverCount);
     }
-    let Some(operation) = book.operation(number as usize) else {
-        return Err(Refusal::Undefined);
-    };
+    let operation = book.operation(number as usize).ok_or(Refusal::Undefined)?;
     if !has_all(&[], call.fields(), operation.marks()) {
         return Err(Refusal::MarkMissing);
     }
@@ -134,15 +128,11 @@ fn add_act(book: &mut Book, number: u8) -> Result<(), Refusal>
     ensures operations { operation_places book.new ≡ operation_places book.old }
     ensures calls { call_places book.new ≡ call_places book.old }
 {
-    let Some(call) = book.last_call() else {
-        return Err(Refusal::OutOfTurn);
-    };
+    let call = book.last_call().ok_or(Refusal::OutOfTurn)?;
     if call.act().is_some() {
         return Err(Refusal::OutOfTurn);
     }
-    let Some(act) = act_of(number) else {
-        return Err(Refusal::Outside);
-    };
+    let act = act_of(number).ok_or(Refusal::Outside)?;
     if !has_all(&[], call.fields(), act.needs()) {
         return Err(Refusal::MarkMissing);
     }
@@ -156,21 +146,15 @@ fn add_after(book: &mut Book, number: u8, when: u8) -> Result<(), Refusal>
     ensures operations { operation_places book.new ≡ operation_places book.old }
     ensures calls { call_places book.new ≡ call_places book.old }
 {
-    let Some(call) = book.last_call() else {
-        return Err(Refusal::OutOfTurn);
-    };
+    let call = book.last_call().ok_or(Refusal::OutOfTurn)?;
     if call.act().is_none() {
         return Err(Refusal::OutOfTurn);
     }
     if call.afters().len() >= STEPS {
         return Err(Refusal::OverCount);
     }
-    let Some(condition) = condition_of(when) else {
-        return Err(Refusal::Outside);
-    };
-    let Some(operation) = book.operation(number as usize) else {
-        return Err(Refusal::Undefined);
-    };
+    let condition = condition_of(when).ok_or(Refusal::Outside)?;
+    let operation = book.operation(number as usize).ok_or(Refusal::Undefined)?;
     if !has_all(&[ANSWER], call.fields(), operation.marks()) {
         return Err(Refusal::MarkMissing);
     }
@@ -179,16 +163,15 @@ fn add_after(book: &mut Book, number: u8, when: u8) -> Result<(), Refusal>
 }
 
 // The command that begins at that offset of the file.
-pub(crate) fn obey(book: &mut Book, command: Command, offset: u32) -> Result<(), Refusal>
-    requires { offset ≤ 32767 }
+pub(crate) fn obey(book: &mut Book, command: Command, offset: u16) -> Result<(), Refusal>
     ensures is { told result (book_of book.new) ≡ judged (book_of book.old) command }
     ensures operations { OnOk result (operation_places book.new ≡ operation_places book.old ++ place_of (operation_name command) offset) }
     ensures calls { OnOk result (call_places book.new ≡ call_places book.old ++ place_of (call_name command) offset) }
 {
     match command {
-        Command::Operation(name) => add_operation(book, name, offset + 1),
+        Command::Operation(name) => add_operation(book, name, u32::from(offset) + 1),
         Command::Field(mark) => add_field(book, mark),
-        Command::Call(name) => add_call(book, name, offset + 1),
+        Command::Call(name) => add_call(book, name, u32::from(offset) + 1),
         Command::Before(number) => add_before(book, number),
         Command::Act(number) => add_act(book, number),
         Command::After(number, when) => add_after(book, number, when),

@@ -1,4 +1,4 @@
-ghost use Rattle.book_file.specs.Commands.{command_of};
+ghost use Rattle.book_file.specs.Commands.{name_in, in_front, command_of};
 ghost use Rattle.format.specs.Refusals.{read_as};
 ghost use Rattle.std.specs.Prelude.{◌≡◌};
 
@@ -6,6 +6,7 @@ use format::refusal::Refusal;
 use tables::name::Name;
 
 // A command of a book's file, with its operands.
+// Acts and conditions stay bytes: a command is written back as it was read, and its tests come in turn.
 #[derive(Clone, Copy)]
 pub enum Command {
     Operation(Name),
@@ -16,21 +17,25 @@ pub enum Command {
     After(u8, u8),
 }
 
+// The name at the front of the bytes, and the bytes behind it.
+pub fn read_name(bytes: &[u8]) -> Result<(Name, &[u8]), Refusal>
+    ensures { read_as result ≡ in_front 8 name_in bytes.now }
+{
+    let (letters, rest) = bytes.split_first_chunk().ok_or(Refusal::CutOff)?;
+    Ok((Name { letters: *letters }, rest))
+}
+
 // The command at the front of the bytes, and the bytes behind it.
 pub fn read_command(bytes: &[u8]) -> Result<(Command, &[u8]), Refusal>
     ensures { read_as result ≡ command_of bytes.now }
 {
     match bytes {
-        [0x80, a, b, c, d, e, f, g, h, rest @ ..] => {
-            let name = Name {
-                letters: [*a, *b, *c, *d, *e, *f, *g, *h],
-            };
+        [0x80, operands @ ..] => {
+            let (name, rest) = read_name(operands)?;
             Ok((Command::Operation(name), rest))
         }
-        [0x81, a, b, c, d, e, f, g, h, rest @ ..] => {
-            let name = Name {
-                letters: [*a, *b, *c, *d, *e, *f, *g, *h],
-            };
+        [0x81, operands @ ..] => {
+            let (name, rest) = read_name(operands)?;
             Ok((Command::Call(name), rest))
         }
         [0x10, mark, rest @ ..] => Ok((Command::Field(*mark), rest)),
@@ -40,7 +45,7 @@ pub fn read_command(bytes: &[u8]) -> Result<(Command, &[u8]), Refusal>
             Command::After(*operation, *condition),
             rest,
         )),
-        [0x80 | 0x81 | 0x10 | 0x11 | 0x12 | 0x20, ..] => Err(Refusal::CutOff),
+        [0x10 | 0x11 | 0x12 | 0x20, ..] => Err(Refusal::CutOff),
         _ => Err(Refusal::NoCommand),
     }
 }

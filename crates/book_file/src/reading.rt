@@ -1,29 +1,58 @@
 // The reader: it takes a book from a file, or says why the file is refused.
-ghost use Rattle.std.specs.Prelude.{◌≡◌, ◌≤◌, ◌++◌, map, OnOk};
+ghost use Rattle.std.specs.Prelude.{◌≡◌, [], ◌∷◌, map, refl};
 ghost use Rattle.book.specs.Books.{op_name, cl_name};
 ghost use Rattle.book.specs.Meaning.{book_of, operation_places, call_places};
-ghost use Rattle.book_file.specs.Commands.{command_at};
 ghost use Rattle.book_file.specs.Law.{book_format, operation_name, call_name};
-ghost use Rattle.format.specs.Format.{step_of, read_file, answer_of, whole_left, place_of, name_places, Accepts, Refuses, OneWriting, Stand};
-ghost use Rattle.format.specs.Refusals.{stepped, numbered};
+ghost use Rattle.book_file.specs.Reading.{Emptied};
+ghost use Rattle.format.specs.Format.{read_file, answer_of, whole_left, name_places, Accepts, Refuses, OneWriting, Stand};
+ghost use Rattle.format.specs.Refusals.{numbered};
 
 use crate::changes::obey;
 use crate::commands::read_command;
 use book::table::Book;
-use format::files::{LONGEST, byte_count};
+use format::reading::{Reading, read};
 use format::refusal::{Refusal, Refused};
 
-// Reads the command at the front of the rest of the file, which begins at that offset, and hands
-// out what stands behind it.
-fn step<'a>(book: &mut Book, rest: &'a [u8], offset: u32) -> Result<&'a [u8], Refusal>
-    requires { offset ≤ 32767 }
-    ensures is { stepped result (book_of book.new) ≡ step_of book_format rest.now (book_of book.old) }
-    ensures operations { OnOk result (operation_places book.new ≡ operation_places book.old ++ place_of (operation_name (command_at rest.now)) offset) }
-    ensures calls { OnOk result (call_places book.new ≡ call_places book.old ++ place_of (call_name (command_at rest.now)) offset) }
-{
-    let (command, after) = read_command(rest)?;
-    obey(book, command, offset)?;
-    Ok(after)
+// A book that is read from a file.
+#[derive(Drop)]
+struct BookReading {
+    book: Book,
+}
+
+impl Reading for BookReading {
+    ghost Against = { Unit {0} };
+
+    ghost against = { λ _. tt };
+
+    ghost format = { λ _. book_format };
+
+    ghost whole = { λ _ r. book_of r.book };
+
+    ghost names = { λ _. operation_name ∷ call_name ∷ [] };
+
+    ghost places = { λ r. operation_places r.book ∷ call_places r.book ∷ [] };
+
+    ghost refused = { λ r. Emptied r.book };
+
+    ghost longest = { λ _. refl };
+
+    fn start(&mut self) {
+        self.book = Book::empty();
+    }
+
+    fn step<'a>(&mut self, rest: &'a [u8], offset: u16) -> Result<&'a [u8], Refusal> {
+        let (command, after) = read_command(rest)?;
+        obey(&mut self.book, command, offset)?;
+        Ok(after)
+    }
+
+    fn is_unfinished(&self) -> bool {
+        false
+    }
+
+    fn refuse(&mut self) {
+        self.start();
+    }
 }
 
 // Reads a book: exactly the writings of lawful books are accepted, and a file that is refused
@@ -39,26 +68,8 @@ pub fn read_book(file: &[u8], book: &mut Book) -> Result<(), Refused>
     ensures operation_names { Stand file.now (operation_places book.new) (map op_name (book_of book.new).operations) }
     ensures call_names { Stand file.now (call_places book.new) (map cl_name (book_of book.new).calls) }
 {
-    *book = Book::empty();
-    if byte_count(file) > LONGEST {
-        return Err(Refused {
-            refusal: Refusal::OverCount,
-            offset: 0,
-        });
-    }
-    let mut rest = file;
-    let mut offset: u32 = 0;
-    while !rest.is_empty() {
-        match step(book, rest, offset) {
-            Ok(after) => {
-                offset += (rest.len() - after.len()) as u32;
-                rest = after;
-            }
-            Err(refusal) => {
-                *book = Book::empty();
-                return Err(Refused { refusal, offset });
-            }
-        }
-    }
-    Ok(())
+    let mut reading = BookReading { book: *book };
+    let answer = read(file, &mut reading);
+    *book = reading.book;
+    answer
 }

@@ -4,7 +4,6 @@ mod Flags
 mod Keeps
 mod Law
 mod Numbers
-mod Operands
 mod Outcome
 mod Parts
 mod Places

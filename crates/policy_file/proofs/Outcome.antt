@@ -1,12 +1,14 @@
 -- What a reader that answers r and leaves the table t has to show of a file read against a book, from what the reading of the file gives.
-use Rattle.std.proofs.Common.{◌≡◌, ℕ, List, [], map, Ok, Err, Result, sym, ap, ◌∙◌, subst}
+use Rattle.std.proofs.Common.{◌≡◌, ℕ, List, [], ◌∷◌, map, get_or, Ok, Err, OnOk, OnErr, Result, sym, ap, ◌∙◌, subst}
 use Rattle.book.specs.Books.{empty_book}
 use Rattle.book.specs.Meaning.{book_of, operation_places, call_places}
 use Rattle.book.specs.declared.table.Book.{Book}
 use Rattle.format.proofs.Law.{accepts, refuses, one_writing}
 use Rattle.format.specs.Bytes.{Bytes}
 use Rattle.format.specs.Format.{Format, read_file, answer_of, whole_left, refused_at, name_places, Accepts, Refuses, OneWriting, Stand}
-use Rattle.format.specs.Refusals.{At}
+use Rattle.format.specs.Readings.{come}
+use Rattle.format.specs.Refusals.{At, number_of, numbered}
+use Rattle.format.specs.declared.refusal.Refused.{Refused}
 use Rattle.policy.specs.Meaning.{Tb, policy_of, table_of, label_places}
 use Rattle.policy.specs.Policies.{cs_label, empty_policy}
 use Rattle.policy.specs.declared.table.Table.{Table}
@@ -14,11 +16,18 @@ use Rattle.policy_file.proofs.Flags.{flags_left}
 use Rattle.policy_file.proofs.Law.{holds, short_book}
 use Rattle.policy_file.proofs.Places.{labels_stand}
 use Rattle.policy_file.specs.Law.{policy_format, label_name, Flagged}
-use Rattle.policy_file.specs.Reading.{table_left, places_left}
+use Rattle.policy_file.specs.Reading.{table_left, places_left, Emptied}
 
 -- the format of policies for the book that is handed in
 abbrev against : Book → Format
 against x = policy_format (book_of x)
+
+-- the places of labels, as they are kept and as they are in the writing
+abbrev places : Table → List (List ℕ)
+places t = label_places t ∷ []
+
+abbrev read_places : Book → Table → List (List ℕ)
+read_places x t = name_places (against x) label_name (policy_of t) ∷ []
 
 pub record Outcome (x : Book) (file : List ℕ) (r : Result (Unit {0}) At) (t : Table) : Type 0 where
   pub answer : r ≡ answer_of (read_file (against x) file)
@@ -58,3 +67,8 @@ module _ (x : Book) (file : List ℕ) (bs : Bytes file) (t : Table) where
   accepted e h ls =
       let with : Book → Tb = λ y. record { book = book_of y; policy = policy_of t } in
       outcome (Ok tt) (sym (ap answer_of e)) (ap with h ∙ sym (ap (table_left (book_of x)) e)) (sym (ap (whole_left (against x)) e)) (ap operation_places h ∙ sym (ap (places_left (operation_places x)) e)) (ap call_places h ∙ sym (ap (places_left (call_places x)) e)) ls
+
+-- what the reader came to, with the book that is handed in and the places of labels, or with nothing left
+pub came : (x : Book) (file : List ℕ) → Bytes file → (t : Table) (r : Result (Unit {0}) Refused) → come r (policy_of t) ≡ read_file (against x) file → OnOk r (t.book ≡ x) → OnOk r (places t ≡ read_places x t) → OnErr r (Emptied t) → Outcome x file (numbered r) t
+came x file bs t (Ok u) e h p q = accepted x file bs t (sym e) h (ap (λ (l : List (List ℕ)). get_or l 0 []) p)
+came x file bs t (Err y) e h p q = refused x file bs t (number_of y.refusal) y.offset (sym e) q.0 q.1 q.2 q.3

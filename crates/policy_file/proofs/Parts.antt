@@ -1,5 +1,5 @@
 -- The tests on parts of a policy, as the plain conditions that they decide.
-use Rattle.std.proofs.Common.{◌≡◌, ℕ, zero, suc, ◌+◌, ◌<◌, ◌≤◌, Bool, true, false, cond, not, ◌&&◌, eqb, ltb, leb, List, [], ◌∷◌, ◌++◌, length, get_or, is_some, Some, None, sym, refl, ap, ◌∙◌, subst, ⊎_elim, add-zero, arith, ltb-true, eqb-true, le-leb, leb-true}
+use Rattle.std.proofs.Common.{◌≡◌, ℕ, zero, suc, ◌+◌, ◌<◌, ◌≤◌, Bool, true, false, cond, not, ◌&&◌, ltb, List, [], ◌∷◌, ◌++◌, length, get_or, is_some, Some, None, Option, sym, refl, ap, ◌∙◌, subst, ⊎_elim, add-zero, arith, le-leb}
 use Rattle.book.proofs.Sets.{has_decides}
 use Rattle.book.specs.Books.{Op, or_else, marks_at, has}
 use Rattle.book_file.proofs.Parts.{nth_less, less_nth}
@@ -20,10 +20,11 @@ use Rattle.policy_file.specs.Terms.{comparison_of, is_mark, known, term_of}
 use Rattle.policy_file.specs.Tests.{absent}
 use Rattle.policy_file.specs.declared.commands.RawTerm.{RawTerm}
 use Rattle.std.proofs.ByRecursion.{all-has}
+use Rattle.std.proofs.lemmas.Bool.Decides.{nat_tests}
 use Rattle.std.proofs.lemmas.Bool.{or_parts, or_from, and_cases, not_from_true, false≢true}
 use Rattle.std.specs.List.{ContainsAt as Among, AllByRecursion, slice_get}
 use Rattle.tables.specs.Lists.{last_of}
-use borrow.Author.Tests.{not-false}
+use Rattle.std.proofs.lemmas.Bool.{not-false}
 
 -- Elements with their numbers.
 
@@ -78,22 +79,22 @@ pub not_absent : {X : Type 0} (xs : List X) (k : ℕ) → k < length xs → abse
 not_absent xs k h = not_from_true (is_some (slice_get xs k)) (less_nth xs k h)
 
 pub below : (k n : ℕ) → not (ltb k n) ≡ false → k < n
-below k n h = ltb-true k n (not-false (ltb k n) h)
+below k n h = grind (arith, nat_tests)
 
 pub not_below : (k n : ℕ) → k < n → not (ltb k n) ≡ false
-not_below k n h = not_from_true (ltb k n) (le-leb (suc k) n h)
+not_below k n h = grind (arith, nat_tests)
 
 -- Comparisons by number.
 
 pub comparison_is : (q : ℕ) → not (is_some (comparison_of q)) ≡ false → (x : Comparison) × (comparison_of q ≡ Some x) × (q ≡ comparison_number x)
-comparison_is q h = at (eqb q 0) (eqb q 1) (eqb q 2) (eqb q 3) refl refl refl refl h
+comparison_is q h = at (comparison_of q) refl
   where
-    at : (s t u v : Bool) → eqb q 0 ≡ s → eqb q 1 ≡ t → eqb q 2 ≡ u → eqb q 3 ≡ v → not (is_some (cond s (Some Equal) (cond t (Some Unequal) (cond u (Some Less) (cond v (Some AtMost) None))))) ≡ false → (x : Comparison) × (cond s (Some Equal) (cond t (Some Unequal) (cond u (Some Less) (cond v (Some AtMost) None))) ≡ Some x) × (q ≡ comparison_number x)
-    at true t u v d e f g h = (Equal, refl, eqb-true q 0 d)
-    at false true u v d e f g h = (Unequal, refl, eqb-true q 1 e)
-    at false false true v d e f g h = (Less, refl, eqb-true q 2 f)
-    at false false false true d e f g h = (AtMost, refl, eqb-true q 3 g)
-    at false false false false d e f g h = absurd (false≢true (sym h))
+    at : (o : Option Comparison) → comparison_of q ≡ o → (x : Comparison) × (comparison_of q ≡ Some x) × (q ≡ comparison_number x)
+    at None e = grind arith
+    at (Some Equal) e = (Equal, e, grind (arith, nat_tests))
+    at (Some Unequal) e = (Unequal, e, grind (arith, nat_tests))
+    at (Some Less) e = (Less, e, grind (arith, nat_tests))
+    at (Some AtMost) e = (AtMost, e, grind (arith, nat_tests))
 
 pub comparison_back : (x : Comparison) → comparison_of (comparison_number x) ≡ Some x
 comparison_back Equal = refl
@@ -109,31 +110,17 @@ Basic cells (Number n) = Unit {0}
 Basic cells (Field m) = (1 ≤ m) × (m ≤ 255)
 Basic cells (Cell k) = k < length cells
 
-mark_is : (m : ℕ) → is_mark m ≡ true → (1 ≤ m) × (m ≤ 255)
-mark_is m h = at (leb 1 m) refl h
-  where
-    at : (t : Bool) → leb 1 m ≡ t → cond t (leb m 255) false ≡ true → (1 ≤ m) × (m ≤ 255)
-    at true e h = (leb-true 1 m e, leb-true m 255 h)
-    at false e h = absurd (false≢true h)
-
 is_mark_within : (m : ℕ) → 1 ≤ m → m ≤ 255 → is_mark m ≡ true
-is_mark_within m p q = rw (le-leb 1 m p) (le-leb m 255 q)
-
-abbrev raw : ℕ → ℕ → RawTerm
-raw k n = record { kind = k; number = n }
+is_mark_within m p q = grind (arith, nat_tests)
 
 pub term_is : (cells : List ℕ) (r : RawTerm) → not (is_some (term_of cells r)) ≡ false → (t : Term) × (term_of cells r ≡ Some t) × (r ≡ raw_of t) × Basic cells t
-term_is cells r h = at (eqb r.kind 0) (eqb r.kind 1) (eqb r.kind 2) (is_mark r.number) (ltb r.number (length cells)) refl refl refl refl refl h
+term_is cells r h = at (term_of cells r) refl
   where
-    at : (a b c d e : Bool) → eqb r.kind 0 ≡ a → eqb r.kind 1 ≡ b → eqb r.kind 2 ≡ c → is_mark r.number ≡ d → ltb r.number (length cells) ≡ e
-        → not (is_some (cond a (Some (Number r.number)) (cond b (cond d (Some (Field r.number)) None) (cond c (cond e (Some (Cell r.number)) None) None)))) ≡ false
-        → (t : Term) × (cond a (Some (Number r.number)) (cond b (cond d (Some (Field r.number)) None) (cond c (cond e (Some (Cell r.number)) None) None)) ≡ Some t) × (r ≡ raw_of t) × Basic cells t
-    at true b c d e p q s m l h = (Number r.number, refl, ap (λ (k : ℕ). raw k r.number) (eqb-true r.kind 0 p), tt)
-    at false true c true e p q s m l h = (Field r.number, refl, ap (λ (k : ℕ). raw k r.number) (eqb-true r.kind 1 q), mark_is r.number m)
-    at false true c false e p q s m l h = absurd (false≢true (sym h))
-    at false false true d true p q s m l h = (Cell r.number, refl, ap (λ (k : ℕ). raw k r.number) (eqb-true r.kind 2 s), ltb-true r.number (length cells) l)
-    at false false true d false p q s m l h = absurd (false≢true (sym h))
-    at false false false d e p q s m l h = absurd (false≢true (sym h))
+    at : (o : Option Term) → term_of cells r ≡ o → (t : Term) × (term_of cells r ≡ Some t) × (r ≡ raw_of t) × Basic cells t
+    at None e = grind arith
+    at (Some (Number n)) e = (Number n, e, grind (arith, nat_tests), tt)
+    at (Some (Field m)) e = (Field m, e, grind (arith, nat_tests), grind (arith, nat_tests))
+    at (Some (Cell k)) e = (Cell k, e, grind (arith, nat_tests), grind (arith, nat_tests))
 
 pub term_known : (cells : List ℕ) (t : Term) → Basic cells t → not (known (raw_of t)) ≡ false
 term_known cells (Number n) h = refl

@@ -1,6 +1,7 @@
 -- In the file that was read, the label of each clause stands at its place.
-use Rattle.std.proofs.Common.{◌≡◌, ℕ, ◌+◌, ◌≤◌, List, [], ◌∷◌, ◌++◌, map, length, take, Some, None, Option, sym, refl, ap, ◌∙◌, subst, subst₂, zero-add}
+use Rattle.std.proofs.Common.{◌≡◌, ℕ, ◌+◌, ◌≤◌, List, [], ◌∷◌, ◌++◌, map, length, Some, None, Option, sym, refl, ap, ◌∙◌, subst, subst₂, zero-add}
 use Rattle.book.specs.Books.{Bk}
+use Rattle.book_file.proofs.Places.{name_there}
 use Rattle.format.proofs.Law.{of_left}
 use Rattle.format.proofs.Places.{joined_append, places_append, Quiet, quiet_append, quiet_map, quiet_joined, Named, names_stand}
 use Rattle.format.specs.Bytes.{Bytes}
@@ -16,7 +17,7 @@ use Rattle.policy.specs.declared.table.When.{When}
 use Rattle.policy_file.proofs.Law.{holds}
 use Rattle.policy_file.specs.Law.{bytes_of, as_cell, as_member, as_when, as_action, of_gr, of_cs, policy_format, label_name}
 use Rattle.policy_file.specs.declared.commands.Command.{Command}
-use Rattle.std.proofs.lemmas.List.{append-nil, append_assoc, take_at}
+use Rattle.std.proofs.lemmas.List.{append-nil, append_assoc}
 use Rattle.std.specs.List.{flat_map}
 use Rattle.tables.specs.declared.name.Name.{Name}
 
@@ -37,12 +38,9 @@ parts ws a = map as_when ws ++ as_action a
 quiet_parts : (ws : List When) (a : Option Action) → Quiet bytes_of label_name (parts ws a)
 quiet_parts ws a = quiet_append bytes_of label_name (map as_when ws) (as_action a) (quiet_map bytes_of label_name as_when (λ w. refl) ws) (quiet_action a)
 
-label_there : (n j rest : List ℕ) → take (length n) ((n ++ j) ++ rest) ≡ n
-label_there n j rest = ap (take (length n)) (append_assoc n j rest) ∙ take_at n (j ++ rest) (length n) refl
-
 label_at : (n : Name) (t : Target) (fs : _) (ws : List When) (a : Option Action) → Named bytes_of label_name of_cs cs_label 2 (record { label = n; target = t; covers = fs; whens = ws; action = a })
-label_at n (Operation o) fs ws a = record { once = λ at. ap (λ (l : List ℕ). (at + 2) ∷ l) (quiet_parts ws a _); there = label_there n.letters (flat_map bytes_of (parts ws a)) }
-label_at n (Group k) fs ws a = record { once = λ at. ap (λ (l : List ℕ). (at + 2) ∷ l) (quiet_parts ws a _); there = label_there n.letters (flat_map bytes_of (parts ws a)) }
+label_at n (Operation o) fs ws a = record { once = λ at. ap (λ (l : List ℕ). (at + 2) ∷ l) (quiet_parts ws a _); there = name_there n.letters (flat_map bytes_of (parts ws a)) }
+label_at n (Group k) fs ws a = record { once = λ at. ap (λ (l : List ℕ). (at + 2) ∷ l) (quiet_parts ws a _); there = name_there n.letters (flat_map bytes_of (parts ws a)) }
 
 -- The whole policy.
 

@@ -1,32 +1,62 @@
 // The reader: it takes a policy from a file against a book, or says why the file is refused.
-ghost use Rattle.std.specs.Prelude.{◌≡◌, ◌≤◌, ◌++◌, map, OnOk};
+ghost use Rattle.std.specs.Prelude.{◌≡◌, [], ◌∷◌, map, refl};
 ghost use Rattle.book.specs.Meaning.{book_of, operation_places, call_places};
-ghost use Rattle.format.specs.Format.{step_of, read_file, answer_of, place_of, name_places, Accepts, Refuses, OneWriting, Stand};
-ghost use Rattle.format.specs.Refusals.{numbered, stepped};
+ghost use Rattle.book.specs.declared.table.Book.{Book};
+ghost use Rattle.format.specs.Format.{read_file, answer_of, name_places, Accepts, Refuses, OneWriting, Stand};
+ghost use Rattle.format.specs.Refusals.{numbered};
 ghost use Rattle.policy.specs.Meaning.{policy_of, table_of, label_places};
 ghost use Rattle.policy.specs.Policies.{cs_label};
-ghost use Rattle.policy_file.specs.Commands.{command_at};
 ghost use Rattle.policy_file.specs.Law.{policy_format, label_name, Flagged};
-ghost use Rattle.policy_file.specs.Reading.{table_left, places_left};
+ghost use Rattle.policy_file.specs.Reading.{table_left, places_left, Emptied};
 
 use crate::changes::obey;
 use crate::commands::read_command;
 use book::table::Book;
-use format::files::{LONGEST, byte_count};
+use format::reading::{Reading, read};
 use format::refusal::{Refusal, Refused};
 use policy::table::Table;
 
-// Reads the command at the front of the rest of the file, which begins at that offset, and hands
-// out what stands behind it.
-fn step<'a>(table: &mut Table, rest: &'a [u8], offset: u32) -> Result<&'a [u8], Refusal>
-    requires { offset ≤ 32767 }
-    ensures is { stepped result (policy_of table.new) ≡ step_of (policy_format (book_of table.old.book)) rest.now (policy_of table.old) }
-    ensures book { table.new.book ≡ table.old.book }
-    ensures places { OnOk result (label_places table.new ≡ label_places table.old ++ place_of (label_name (command_at rest.now)) offset) }
-{
-    let (command, after) = read_command(rest)?;
-    obey(table, command, offset)?;
-    Ok(after)
+// A policy that is read from a file, in the table that has the book it is read against.
+#[derive(Drop)]
+struct PolicyReading {
+    table: Table,
+}
+
+impl Reading for PolicyReading {
+    ghost Against = { Book };
+
+    ghost against = { λ r. r.table.book };
+
+    ghost format = { λ b. policy_format (book_of b) };
+
+    ghost whole = { λ _ r. policy_of r.table };
+
+    ghost names = { λ _. label_name ∷ [] };
+
+    ghost places = { λ r. label_places r.table ∷ [] };
+
+    ghost refused = { λ r. Emptied r.table };
+
+    ghost longest = { λ _. refl };
+
+    fn start(&mut self) {
+        let book = *self.table.book();
+        self.table = Table::new(&book);
+    }
+
+    fn step<'a>(&mut self, rest: &'a [u8], offset: u16) -> Result<&'a [u8], Refusal> {
+        let (command, after) = read_command(rest)?;
+        obey(&mut self.table, command, offset)?;
+        Ok(after)
+    }
+
+    fn is_unfinished(&self) -> bool {
+        self.table.is_unfinished()
+    }
+
+    fn refuse(&mut self) {
+        self.table = Table::empty();
+    }
 }
 
 // Reads a policy against a book into the full table: exactly the writings of lawful policies are
@@ -43,34 +73,10 @@ pub fn read_policy(file: &[u8], book: &Book, table: &mut Table) -> Result<(), Re
     ensures label_names { Stand file.now (label_places table.new) (map cs_label (policy_of table.new).clauses) }
     ensures flagged { Flagged (policy_of table.new) }
 {
-    *table = Table::new(book);
-    if byte_count(file) > LONGEST {
-        *table = Table::empty();
-        return Err(Refused {
-            refusal: Refusal::OverCount,
-            offset: 0,
-        });
-    }
-    let mut rest = file;
-    let mut offset: u32 = 0;
-    while !rest.is_empty() {
-        match step(table, rest, offset) {
-            Ok(after) => {
-                offset += (rest.len() - after.len()) as u32;
-                rest = after;
-            }
-            Err(refusal) => {
-                *table = Table::empty();
-                return Err(Refused { refusal, offset });
-            }
-        }
-    }
-    if table.is_unfinished() {
-        *table = Table::empty();
-        return Err(Refused {
-            refusal: Refusal::Unfinished,
-            offset,
-        });
-    }
-    Ok(())
+    let mut reading = PolicyReading {
+        table: Table::new(book),
+    };
+    let answer = read(file, &mut reading);
+    *table = reading.table;
+    answer
 }

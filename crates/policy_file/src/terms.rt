@@ -1,6 +1,6 @@
 // The comparisons and terms that operands stand for.
 ghost use Rattle.policy.specs.Meaning.{policy_of};
-ghost use Rattle.policy_file.specs.Terms.{comparison_of, known, term_of};
+ghost use Rattle.policy_file.specs.Terms.{comparison_of, is_mark, known, term_of};
 ghost use Rattle.std.specs.Prelude.{◌≡◌};
 
 use crate::commands::RawTerm;
@@ -19,6 +19,13 @@ pub(crate) fn comparison_of(number: u8) -> Option<Comparison>
     }
 }
 
+// Whether the number is a mark.
+fn is_mark(number: u32) -> bool
+    ensures { result ≡ is_mark number }
+{
+    1 <= number && number <= 255
+}
+
 impl RawTerm {
     // Whether there is a term of that kind, and of a field whether the number is a mark.
     pub(crate) fn is_known(self) -> bool
@@ -26,7 +33,7 @@ impl RawTerm {
     {
         match self.kind {
             0 | 2 => true,
-            1 => 1 <= self.number && self.number <= 255,
+            1 => is_mark(self.number),
             _ => false,
         }
     }
@@ -36,14 +43,11 @@ impl RawTerm {
         ensures { result ≡ term_of (policy_of table.now).cells self }
     {
         let number = self.number;
-        if self.kind == 0 {
-            Some(Term::Number(number))
-        } else if self.kind == 1 && 1 <= number && number <= 255 {
-            Some(Term::Field(number as u8))
-        } else if self.kind == 2 && (number as usize) < table.cells().len() {
-            Some(Term::Cell(number as u8))
-        } else {
-            None
+        match self.kind {
+            0 => Some(Term::Number(number)),
+            1 if is_mark(number) => Some(Term::Field(number as u8)),
+            2 if (number as usize) < table.cells().len() => Some(Term::Cell(number as u8)),
+            _ => None,
         }
     }
 }
