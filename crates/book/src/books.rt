@@ -7,7 +7,7 @@ ghost use Rattle.std.specs.List.{slice_get};
 ghost use Rattle.tables.specs.Lists.{last_of};
 
 use crate::table::{Book, Call, Operation};
-use tables::name::Name;
+use tables::name::{Name, Placed};
 use tables::rows::Rows;
 
 impl Book {
@@ -17,10 +17,13 @@ impl Book {
         ensures operations { operation_places result ≡ [] }
         ensures calls { call_places result ≡ [] }
     {
-        let name = Name { letters: [b' '; 8] };
+        let placed = Placed {
+            name: Name { letters: [b' '; 8] },
+            place: 0,
+        };
         Book {
-            operations: Rows::new(Operation::new(name, 0)),
-            calls: Rows::new(Call::new(name, 0)),
+            operations: Rows::new(Operation::new(placed)),
+            calls: Rows::new(Call::new(placed)),
         }
     }
 

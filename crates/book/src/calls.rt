@@ -5,7 +5,7 @@ ghost use Rattle.std.specs.Prelude.{◌≡◌};
 
 use crate::table::{Act, After, Call, Condition};
 use tables::lookup::Named;
-use tables::name::Name;
+use tables::name::{Name, Placed};
 use tables::rows::Rows;
 
 impl Act {
@@ -22,17 +22,16 @@ impl Act {
 
 impl Call {
     // A call with no fields and no steps yet.
-    pub(crate) fn new(name: Name, place: u32) -> Call
-        ensures is { cl_of result ≡ new_cl name }
-        ensures place { cl_place result ≡ place }
+    pub(crate) fn new(placed: Placed) -> Call
+        ensures is { cl_of result ≡ new_cl placed.name }
+        ensures place { cl_place result ≡ placed.place }
     {
         let step = After {
             operation: 0,
             condition: Condition::Always,
         };
         Call {
-            name,
-            place,
+            placed,
             fields: Rows::new(0),
             befores: Rows::new(0),
             act: None,
@@ -43,14 +42,14 @@ impl Call {
     pub fn name(&self) -> Name
         ensures { result ≡ (cl_of self.now).name }
     {
-        self.name
+        self.placed.name
     }
 
     // The offset in the file at which the name stands.
     pub fn place(&self) -> u32
         ensures { result ≡ cl_place self.now }
     {
-        self.place
+        self.placed.place
     }
 
     // The marks of the fields.
@@ -82,7 +81,7 @@ impl Call {
 }
 
 impl Named for Call {
-    ghost name = { λ c. c.name.letters };
+    ghost name = { λ c. c.placed.name.letters };
 
     fn name(&self) -> Name {
         Call::name(self)

@@ -8,7 +8,7 @@ ghost use Rattle.tables.specs.Search.{first_named};
 
 use crate::table::{Act, After, Book, Call, Condition, Operation};
 use tables::lookup::find;
-use tables::name::Name;
+use tables::name::{Name, Placed};
 
 impl Operation {
     // One more mark, where there is room.
@@ -135,20 +135,20 @@ impl Book {
     }
 
     // One more operation, where there is room.
-    pub fn push_operation(&mut self, name: Name, place: u32)
-        ensures is { book_of self.new ≡ (if full 64 (book_of self.old).operations then book_of self.old else with_operation name (book_of self.old)) }
-        ensures operations { operation_places self.new ≡ (if full 64 (book_of self.old).operations then operation_places self.old else operation_places self.old ++ place ∷ []) }
+    pub fn push_operation(&mut self, placed: Placed)
+        ensures is { book_of self.new ≡ (if full 64 (book_of self.old).operations then book_of self.old else with_operation placed.name (book_of self.old)) }
+        ensures operations { operation_places self.new ≡ (if full 64 (book_of self.old).operations then operation_places self.old else operation_places self.old ++ placed.place ∷ []) }
         ensures calls { call_places self.new ≡ call_places self.old }
     {
-        let _ = self.operations.push(Operation::new(name, place));
+        let _ = self.operations.push(Operation::new(placed));
     }
 
     // One more call, where there is room.
-    pub fn push_call(&mut self, name: Name, place: u32)
-        ensures is { book_of self.new ≡ (if full 64 (book_of self.old).calls then book_of self.old else with_call name (book_of self.old)) }
+    pub fn push_call(&mut self, placed: Placed)
+        ensures is { book_of self.new ≡ (if full 64 (book_of self.old).calls then book_of self.old else with_call placed.name (book_of self.old)) }
         ensures operations { operation_places self.new ≡ operation_places self.old }
-        ensures calls { call_places self.new ≡ (if full 64 (book_of self.old).calls then call_places self.old else call_places self.old ++ place ∷ []) }
+        ensures calls { call_places self.new ≡ (if full 64 (book_of self.old).calls then call_places self.old else call_places self.old ++ placed.place ∷ []) }
     {
-        let _ = self.calls.push(Call::new(name, place));
+        let _ = self.calls.push(Call::new(placed));
     }
 }

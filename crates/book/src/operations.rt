@@ -5,18 +5,17 @@ ghost use Rattle.std.specs.Prelude.{◌≡◌};
 
 use crate::table::Operation;
 use tables::lookup::Named;
-use tables::name::Name;
+use tables::name::{Name, Placed};
 use tables::rows::Rows;
 
 impl Operation {
     // An operation with no marks yet.
-    pub(crate) fn new(name: Name, place: u32) -> Operation
-        ensures is { op_of result ≡ new_op name }
-        ensures place { op_place result ≡ place }
+    pub(crate) fn new(placed: Placed) -> Operation
+        ensures is { op_of result ≡ new_op placed.name }
+        ensures place { op_place result ≡ placed.place }
     {
         Operation {
-            name,
-            place,
+            placed,
             marks: Rows::new(0),
         }
     }
@@ -24,14 +23,14 @@ impl Operation {
     pub fn name(&self) -> Name
         ensures { result ≡ (op_of self.now).name }
     {
-        self.name
+        self.placed.name
     }
 
     // The offset in the file at which the name stands.
     pub fn place(&self) -> u32
         ensures { result ≡ op_place self.now }
     {
-        self.place
+        self.placed.place
     }
 
     pub fn marks(&self) -> &[u8]
@@ -42,7 +41,7 @@ impl Operation {
 }
 
 impl Named for Operation {
-    ghost name = { λ o. o.name.letters };
+    ghost name = { λ o. o.placed.name.letters };
 
     fn name(&self) -> Name {
         Operation::name(self)

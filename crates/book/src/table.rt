@@ -1,5 +1,5 @@
 // The types of a book: tables are arrays in plain structs.
-use tables::name::Name;
+use tables::name::Placed;
 use tables::rows::Rows;
 
 // The most operations, and the most calls, of a book.
@@ -37,20 +37,18 @@ pub struct After {
     pub condition: Condition,
 }
 
-// An operation: its name, where the name stands in the file, and its marks.
+// An operation: its name and where that stands in the file, and its marks.
 #[derive(Clone, Copy)]
 pub struct Operation {
-    pub(crate) name: Name,
-    pub(crate) place: u32,
+    pub(crate) placed: Placed,
     pub(crate) marks: Rows<u8, MARKS>,
 }
 
-// A call: its name, where the name stands in the file, the marks of its fields, and its steps
+// A call: its name and where that stands in the file, the marks of its fields, and its steps
 // before its act, its act where it has one, and its steps after.
 #[derive(Clone, Copy)]
 pub struct Call {
-    pub(crate) name: Name,
-    pub(crate) place: u32,
+    pub(crate) placed: Placed,
     pub(crate) fields: Rows<u8, FIELDS>,
     pub(crate) befores: Rows<u8, STEPS>,
     pub(crate) act: Option<Act>,

@@ -1,5 +1,5 @@
 // What each command does to a book: the tests in the order of their numbers, and then the change.
-ghost use Rattle.std.specs.Prelude.{◌≡◌, [], ◌∷◌, ◌++◌, OnOk};
+ghost use Rattle.std.specs.Prelude.{◌≡◌, [], ◌∷◌, ◌++◌, ◌+◌, OnOk};
 ghost use Rattle.book.specs.Meaning.{cl_of, book_of, operation_places, call_places};
 ghost use Rattle.book_file.specs.Law.{operation_name, call_name};
 ghost use Rattle.book_file.specs.Tests.{judged, begun, mark_judged};
@@ -12,7 +12,7 @@ use crate::operands::{act_of, condition_of};
 use book::marks::{has, has_all};
 use book::table::{Book, CALLS, Call, FIELDS, MARKS, OPERATIONS, STEPS};
 use format::refusal::Refusal;
-use tables::name::Name;
+use tables::name::{Name, Placed};
 
 // The mark that stands for the register's answer.
 const ANSWER: u8 = 255;
@@ -40,10 +40,10 @@ fn check_mark(marks: &[u8], most: usize, reserved: &[u8], mark: u8) -> Result<()
     Ok(())
 }
 
-// OPERATION: begins an operation, whose name stands at that place in the file.
-fn add_operation(book: &mut Book, name: Name, place: u32) -> Result<(), Refusal>
-    ensures is { told result (book_of book.new) ≡ judged (book_of book.old) (OPERATION name) }
-    ensures operations { OnOk result (operation_places book.new ≡ operation_places book.old ++ place ∷ []) }
+// OPERATION: begins an operation.
+fn add_operation(book: &mut Book, placed: Placed) -> Result<(), Refusal>
+    ensures is { told result (book_of book.new) ≡ judged (book_of book.old) (OPERATION placed.name) }
+    ensures operations { OnOk result (operation_places book.new ≡ operation_places book.old ++ placed.place ∷ []) }
     ensures calls { call_places book.new ≡ call_places book.old }
 {
     if book.last_call().is_some() {
@@ -52,32 +52,32 @@ fn add_operation(book: &mut Book, name: Name, place: u32) -> Result<(), Refusal>
     if book.operation_count() >= OPERATIONS {
         return Err(Refusal::OverCount);
     }
-    if !name.is_proper() {
+    if !placed.name.is_proper() {
         return Err(Refusal::Outside);
     }
-    if book.has_operation(&name) {
+    if book.has_operation(&placed.name) {
         return Err(Refusal::Taken);
     }
-    book.push_operation(name, place);
+    book.push_operation(placed);
     Ok(())
 }
 
-// CALL: begins a call, whose name stands at that place in the file.
-fn add_call(book: &mut Book, name: Name, place: u32) -> Result<(), Refusal>
-    ensures is { told result (book_of book.new) ≡ judged (book_of book.old) (CALL name) }
+// CALL: begins a call.
+fn add_call(book: &mut Book, placed: Placed) -> Result<(), Refusal>
+    ensures is { told result (book_of book.new) ≡ judged (book_of book.old) (CALL placed.name) }
     ensures operations { operation_places book.new ≡ operation_places book.old }
-    ensures calls { OnOk result (call_places book.new ≡ call_places book.old ++ place ∷ []) }
+    ensures calls { OnOk result (call_places book.new ≡ call_places book.old ++ placed.place ∷ []) }
 {
     if book.call_count() >= CALLS {
         return Err(Refusal::OverCount);
     }
-    if !name.is_proper() {
+    if !placed.name.is_proper() {
         return Err(Refusal::Outside);
     }
-    if book.has_call(&name) {
+    if book.has_call(&placed.name) {
         return Err(Refusal::Taken);
     }
-    book.push_call(name, place);
+    book.push_call(placed);
     Ok(())
 }
 
@@ -162,6 +162,16 @@ fn add_after(book: &mut Book, number: u8, when: u8) -> Result<(), Refusal>
     Ok(())
 }
 
+// The name of a command that begins at that offset: it stands one byte behind.
+fn behind(name: Name, offset: u16) -> Placed
+    ensures { result ≡ record { name = name; place = offset + 1 } }
+{
+    Placed {
+        name,
+        place: u32::from(offset) + 1,
+    }
+}
+
 // The command that begins at that offset of the file.
 pub(crate) fn obey(book: &mut Book, command: Command, offset: u16) -> Result<(), Refusal>
     ensures is { told result (book_of book.new) ≡ judged (book_of book.old) command }
@@ -169,9 +179,9 @@ pub(crate) fn obey(book: &mut Book, command: Command, offset: u16) -> Result<(),
     ensures calls { OnOk result (call_places book.new ≡ call_places book.old ++ place_of (call_name command) offset) }
 {
     match command {
-        Command::Operation(name) => add_operation(book, name, u32::from(offset) + 1),
+        Command::Operation(name) => add_operation(book, behind(name, offset)),
         Command::Field(mark) => add_field(book, mark),
-        Command::Call(name) => add_call(book, name, u32::from(offset) + 1),
+        Command::Call(name) => add_call(book, behind(name, offset)),
         Command::Before(number) => add_before(book, number),
         Command::Act(number) => add_act(book, number),
         Command::After(number, when) => add_after(book, number, when),

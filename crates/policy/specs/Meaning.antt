@@ -20,7 +20,7 @@ gr_of g = record { members = rows_of g.members }
 
 -- a clause
 abbrev pub cs_of : Clause → Cs
-cs_of c = record { label = c.label; target = c.target; covers = c.covers; whens = rows_of c.whens; action = c.action }
+cs_of c = record { label = c.label.name; target = c.target; covers = c.covers; whens = rows_of c.whens; action = c.action }
 
 -- the policy of a table
 abbrev pub policy_of : Table → Po
@@ -32,7 +32,7 @@ table_of t = record { book = book_of t.book; policy = policy_of t }
 
 -- the place of a clause's label in the file
 abbrev pub cs_place : Clause → ℕ
-cs_place c = c.place
+cs_place c = c.label.place
 
 -- the places of the clauses' labels in the file
 abbrev pub label_places : Table → List ℕ

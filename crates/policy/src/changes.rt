@@ -8,7 +8,7 @@ ghost use Rattle.tables.specs.Lists.{last_of};
 
 use crate::table::{Action, Clause, Group, Member, Table, Target, When};
 use tables::lookup::find;
-use tables::name::Name;
+use tables::name::{Name, Placed};
 
 impl Group {
     // One more member, where there is room.
@@ -90,13 +90,13 @@ impl Table {
     }
 
     // One more clause, where there is room; what it applies to is found here, once.
-    pub fn push_clause(&mut self, target: Target, label: Name, place: u32)
-        ensures is { policy_of self.new ≡ (if full 256 (policy_of self.old).clauses then policy_of self.old else with_clause target label (policy_of self.old)) }
+    pub fn push_clause(&mut self, target: Target, label: Placed)
+        ensures is { policy_of self.new ≡ (if full 256 (policy_of self.old).clauses then policy_of self.old else with_clause target label.name (policy_of self.old)) }
         ensures book { self.new.book ≡ self.old.book }
-        ensures places { label_places self.new ≡ (if full 256 (policy_of self.old).clauses then label_places self.old else label_places self.old ++ place ∷ []) }
+        ensures places { label_places self.new ≡ (if full 256 (policy_of self.old).clauses then label_places self.old else label_places self.old ++ label.place ∷ []) }
     {
         let covers = self.flags(target);
-        let _ = self.clauses.push(Clause::new(label, place, target, covers));
+        let _ = self.clauses.push(Clause::new(label, target, covers));
     }
 
     // Whether the clause begun last has no action.

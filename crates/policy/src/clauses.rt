@@ -5,14 +5,14 @@ ghost use Rattle.std.specs.Prelude.{◌≡◌, false, [], None, slice_index_or};
 use crate::table::{Action, Clause, Comparison, Target, Term, When};
 use book::table::OPERATIONS;
 use tables::lookup::Named;
-use tables::name::Name;
+use tables::name::{Name, Placed};
 use tables::rows::Rows;
 
 impl Clause {
     // A clause with no conditions and no action yet.
-    pub(crate) fn new(label: Name, place: u32, target: Target, covers: [bool; OPERATIONS]) -> Clause
-        ensures is { cs_of result ≡ record { label = label; target = target; covers = covers; whens = []; action = None } }
-        ensures place { cs_place result ≡ place }
+    pub(crate) fn new(label: Placed, target: Target, covers: [bool; OPERATIONS]) -> Clause
+        ensures is { cs_of result ≡ record { label = label.name; target = target; covers = covers; whens = []; action = None } }
+        ensures place { cs_place result ≡ label.place }
     {
         let when = When {
             comparison: Comparison::Equal,
@@ -21,7 +21,6 @@ impl Clause {
         };
         Clause {
             label,
-            place,
             target,
             covers,
             whens: Rows::new(when),
@@ -32,14 +31,14 @@ impl Clause {
     pub fn label(&self) -> Name
         ensures { result ≡ (cs_of self.now).label }
     {
-        self.label
+        self.label.name
     }
 
     // The offset in the file at which the label stands.
     pub(crate) fn place(&self) -> u32
         ensures { result ≡ cs_place self.now }
     {
-        self.place
+        self.label.place
     }
 
     // Whether the clause applies to the operation of that number.
@@ -65,7 +64,7 @@ impl Clause {
 }
 
 impl Named for Clause {
-    ghost name = { λ c. c.label.letters };
+    ghost name = { λ c. c.label.name.letters };
 
     fn name(&self) -> Name {
         Clause::label(self)

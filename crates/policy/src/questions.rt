@@ -12,7 +12,7 @@ ghost use Rattle.tables.specs.Rows.{rows_of};
 use crate::table::{CELLS, Clause, Group, Table, Target, Term};
 use book::marks::has;
 use book::table::{Book, OPERATIONS};
-use tables::name::Name;
+use tables::name::{Name, Placed};
 use tables::rows::Rows;
 
 impl Table {
@@ -22,8 +22,11 @@ impl Table {
         ensures book { result.book ≡ book.now }
         ensures places { label_places result ≡ [] }
     {
-        let name = Name { letters: [b' '; 8] };
-        let clause = Clause::new(name, 0, Target::Operation(0), [false; OPERATIONS]);
+        let label = Placed {
+            name: Name { letters: [b' '; 8] },
+            place: 0,
+        };
+        let clause = Clause::new(label, Target::Operation(0), [false; OPERATIONS]);
         Table {
             book: *book,
             cells: Rows::new(0),

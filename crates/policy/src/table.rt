@@ -1,6 +1,6 @@
 // The tables of a policy, as they lie in memory.
 use book::table::{Book, OPERATIONS};
-use tables::name::Name;
+use tables::name::Placed;
 use tables::rows::Rows;
 
 // The most cells, groups and clauses of a policy.
@@ -77,12 +77,11 @@ pub struct Group {
     pub(crate) members: Rows<Member, MEMBERS>,
 }
 
-// A clause: its label, where the label stands in the file, what it is on, for each operation
+// A clause: its label and where that stands in the file, what it is on, for each operation
 // whether the clause applies to it, its conditions, and its action where that has come.
 #[derive(Clone, Copy)]
 pub struct Clause {
-    pub(crate) label: Name,
-    pub(crate) place: u32,
+    pub(crate) label: Placed,
     pub(crate) target: Target,
     pub(crate) covers: [bool; OPERATIONS],
     pub(crate) whens: Rows<When, WHENS>,

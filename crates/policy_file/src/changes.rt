@@ -1,5 +1,5 @@
 // What each command does to a table: the tests in the order of their numbers, and then the change.
-ghost use Rattle.std.specs.Prelude.{◌≡◌, not, [], ◌∷◌, ◌++◌, OnOk};
+ghost use Rattle.std.specs.Prelude.{◌≡◌, not, [], ◌∷◌, ◌++◌, ◌+◌, OnOk};
 ghost use Rattle.book.specs.Meaning.{book_of};
 ghost use Rattle.format.specs.Format.{place_of};
 ghost use Rattle.format.specs.Refusals.{told};
@@ -14,7 +14,7 @@ use format::refusal::Refusal;
 use policy::table::{
     Action, CELLS, CLAUSES, GROUPS, MEMBERS, Member, Table, Target, WHENS, When, Write,
 };
-use tables::name::Name;
+use tables::name::{Name, Placed};
 
 // CELL: one more cell, with its first value.
 fn add_cell(table: &mut Table, first: u32) -> Result<(), Refusal>
@@ -88,11 +88,11 @@ fn is_target(table: &Table, target: Target) -> bool
     }
 }
 
-// ON, ONGROUP: begins a clause on that target; its label stands at that place in the file.
-fn add_clause(table: &mut Table, target: Target, label: Name, place: u32) -> Result<(), Refusal>
-    ensures is { told result (policy_of table.new) ≡ judged (book_of table.old.book) (policy_of table.old) (as_target target label) }
+// ON, ONGROUP: begins a clause on that target.
+fn add_clause(table: &mut Table, target: Target, label: Placed) -> Result<(), Refusal>
+    ensures is { told result (policy_of table.new) ≡ judged (book_of table.old.book) (policy_of table.old) (as_target target label.name) }
     ensures book { table.new.book ≡ table.old.book }
-    ensures places { OnOk result (label_places table.new ≡ label_places table.old ++ place ∷ []) }
+    ensures places { OnOk result (label_places table.new ≡ label_places table.old ++ label.place ∷ []) }
 {
     if table.is_unfinished() {
         return Err(Refusal::OutOfTurn);
@@ -100,16 +100,16 @@ fn add_clause(table: &mut Table, target: Target, label: Name, place: u32) -> Res
     if table.clause_count() >= CLAUSES {
         return Err(Refusal::OverCount);
     }
-    if !label.is_proper() {
+    if !label.name.is_proper() {
         return Err(Refusal::Outside);
     }
     if !is_target(table, target) {
         return Err(Refusal::Undefined);
     }
-    if table.has_label(&label) {
+    if table.has_label(&label.name) {
         return Err(Refusal::Taken);
     }
-    table.push_clause(target, label, place);
+    table.push_clause(target, label);
     Ok(())
 }
 
@@ -180,6 +180,16 @@ fn add_write(table: &mut Table, write: Write, cell: u8, value: RawTerm) -> Resul
     Ok(())
 }
 
+// The label of a command that begins at that offset: it stands two bytes behind.
+fn behind(label: Name, offset: u16) -> Placed
+    ensures { result ≡ record { name = label; place = offset + 2 } }
+{
+    Placed {
+        name: label,
+        place: u32::from(offset) + 2,
+    }
+}
+
 // The command that begins at that offset of the file.
 pub(crate) fn obey(table: &mut Table, command: Command, offset: u16) -> Result<(), Refusal>
     ensures is { told result (policy_of table.new) ≡ judged (book_of table.old.book) (policy_of table.old) command }
@@ -191,18 +201,12 @@ pub(crate) fn obey(table: &mut Table, command: Command, offset: u16) -> Result<(
         Command::Group => add_group(table),
         Command::Has(operation) => add_member(table, Member::Has(operation)),
         Command::Nest(inner) => add_member(table, Member::Nest(inner)),
-        Command::On(operation, label) => add_clause(
-            table,
-            Target::Operation(operation),
-            label,
-            u32::from(offset) + 2,
-        ),
-        Command::OnGroup(group, label) => add_clause(
-            table,
-            Target::Group(group),
-            label,
-            u32::from(offset) + 2,
-        ),
+        Command::On(operation, label) => {
+            add_clause(table, Target::Operation(operation), behind(label, offset))
+        }
+        Command::OnGroup(group, label) => {
+            add_clause(table, Target::Group(group), behind(label, offset))
+        }
         Command::When(comparison, left, right) => add_when(table, comparison, left, right),
         Command::Violate => add_violate(table),
         Command::Write(write, cell, value) => add_write(table, write, cell, value),

@@ -10,6 +10,13 @@ pub struct Name {
     pub letters: [u8; 8],
 }
 
+// A name, and the offset in its file at which it stands.
+#[derive(Clone, Copy, Debug, PartialEq, Eq)]
+pub struct Placed {
+    pub name: Name,
+    pub place: u32,
+}
+
 // Whether a letter can be printed: a space, or a visible sign of ASCII.
 fn is_printed(letter: u8) -> bool
     ensures { result ≡ prints letter }

@@ -15,6 +15,6 @@ returns c =
     let l = c.push.ensures.after in
     record {
       is = row_pushed cl_of r (calls_are (book_of b)) t p x _ (meant_room cl_of r) l c.new.ensures.is;
-      calls = row_pushed cl_place r (λ l. l) t p x c.args.place (meant_room cl_of r) l c.new.ensures.place;
+      calls = row_pushed cl_place r (λ l. l) t p x c.args.placed.place (meant_room cl_of r) l c.new.ensures.place;
       operations = refl;
     }

@@ -15,6 +15,6 @@ returns c =
     let l = c.push.ensures.after in
     record {
       is = row_pushed op_of r (operations_are (book_of b)) t p x _ (meant_room op_of r) l c.new.ensures.is;
-      operations = row_pushed op_place r (λ l. l) t p x c.args.place (meant_room op_of r) l c.new.ensures.place;
+      operations = row_pushed op_place r (λ l. l) t p x c.args.placed.place (meant_room op_of r) l c.new.ensures.place;
       calls = refl;
     }

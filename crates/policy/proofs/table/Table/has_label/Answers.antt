@@ -10,6 +10,6 @@ use mathlib.Core.List.{map-map}
 pub returns : goal.returns
 returns c =
     let n = c.args.label.now.letters in
-    let held = ap (λ (l : List Clause). first_named (map (λ x. x.label.letters) l) n) c.held.ensures in
+    let held = ap (λ (l : List Clause). first_named (map (λ x. x.label.name.letters) l) n) c.held.ensures in
     let meant = ap (λ (l : List (List ℕ)). first_named l n) (sym (map-map cs_label cs_of (rows_of c.args.self.now.clauses))) in
     c.is_some.ensures ∙ ap is_some (c.find.ensures.is ∙ held ∙ meant)

@@ -14,7 +14,7 @@ returns c =
     let p = full 256 (policy_of b).clauses in
     let l = c.push.ensures.after in
     record {
-      is = row_pushed cs_of r (clauses_are (policy_of b)) t p x _ (meant_room cs_of r) l (c.new.ensures.is ∙ ap (begun c.args.label c.args.target) c.flags-covers.ensures);
+      is = row_pushed cs_of r (clauses_are (policy_of b)) t p x _ (meant_room cs_of r) l (c.new.ensures.is ∙ ap (begun c.args.label.name c.args.target) c.flags-covers.ensures);
       book = refl;
-      places = row_pushed cs_place r (λ l. l) t p x c.args.place (meant_room cs_of r) l c.new.ensures.place;
+      places = row_pushed cs_place r (λ l. l) t p x c.args.label.place (meant_room cs_of r) l c.new.ensures.place;
     }
