@@ -1,2 +1,3 @@
 mod Halves
 pub mod Sets
+pub mod Lending

@@ -1,9 +1,10 @@
 use Rattle.book.proofs.Halves.{calls_are}
+use Rattle.book.proofs.Lending.{lent_row, lent_none}
 use Rattle.book.proofs.table.Book.push_field.Goals as goal
 use Rattle.book.specs.Books.{fielded, full}
 use Rattle.book.specs.Meaning.{cl_of, book_of, cl_place}
-use Rattle.tables.proofs.Lent.{meant_last, meant_none, row_same, row_taken, row_kept}
-use Rattle.std.proofs.Common.{refl, ◌∙◌}
+use Rattle.std.proofs.Common.{refl}
+use Rattle.tables.proofs.Lent.{row_same, row_kept}
 
 pub returns-in-Some : goal.returns-in-Some
 returns-in-Some c =
@@ -14,9 +15,8 @@ returns-in-Some c =
     let t = c.last_mut.follows.lender w in
     let e = c.in-Some.ensures.value in
     let l = c.last_mut.follows.holds w in
-    let m = meant_last cl_of r o e in
     record {
-      is = simp m (row_taken cl_of r (calls_are (book_of b)) t (full 8 (cl_of o).fields) (fielded c.args.mark) o w e l c.push_field.ensures.is);
+      is = lent_row cl_of r (calls_are (book_of b)) t (λ c. full 8 c.fields) (fielded c.args.mark) o w e l c.push_field.ensures.is;
       calls = row_kept cl_place r (λ l. l) t o w e l c.push_field.ensures.place;
       operations = refl;
     }
@@ -27,9 +27,8 @@ returns-in_default c =
     let r = b.calls in
     let t = c.last_mut.follows.lender-at-none in
     let same = c.last_mut.follows.holds-at-none in
-    let n = meant_none cl_of r c.in_default.ensures.value in
     record {
-      is = row_same cl_of r (calls_are (book_of b)) t same ∙ simp n;
+      is = lent_none cl_of r (calls_are (book_of b)) t (λ c. full 8 c.fields) (fielded c.args.mark) c.in_default.ensures.value same;
       calls = row_same cl_place r (λ l. l) t same;
       operations = refl;
     }

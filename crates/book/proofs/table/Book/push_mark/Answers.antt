@@ -1,9 +1,10 @@
 use Rattle.book.proofs.Halves.{operations_are}
+use Rattle.book.proofs.Lending.{lent_row, lent_none}
 use Rattle.book.proofs.table.Book.push_mark.Goals as goal
 use Rattle.book.specs.Books.{marked, full}
 use Rattle.book.specs.Meaning.{op_of, book_of, op_place}
-use Rattle.tables.proofs.Lent.{meant_last, meant_none, row_same, row_taken, row_kept}
-use Rattle.std.proofs.Common.{refl, ◌∙◌}
+use Rattle.std.proofs.Common.{refl}
+use Rattle.tables.proofs.Lent.{row_same, row_kept}
 
 pub returns-in-Some : goal.returns-in-Some
 returns-in-Some c =
@@ -14,9 +15,8 @@ returns-in-Some c =
     let t = c.last_mut.follows.lender w in
     let e = c.in-Some.ensures.value in
     let l = c.last_mut.follows.holds w in
-    let m = meant_last op_of r o e in
     record {
-      is = simp m (row_taken op_of r (operations_are (book_of b)) t (full 6 (op_of o).marks) (marked c.args.mark) o w e l c.push_mark.ensures.is);
+      is = lent_row op_of r (operations_are (book_of b)) t (λ o. full 6 o.marks) (marked c.args.mark) o w e l c.push_mark.ensures.is;
       operations = row_kept op_place r (λ l. l) t o w e l c.push_mark.ensures.place;
       calls = refl;
     }
@@ -27,9 +27,8 @@ returns-in_default c =
     let r = b.operations in
     let t = c.last_mut.follows.lender-at-none in
     let same = c.last_mut.follows.holds-at-none in
-    let n = meant_none op_of r c.in_default.ensures.value in
     record {
-      is = row_same op_of r (operations_are (book_of b)) t same ∙ simp n;
+      is = lent_none op_of r (operations_are (book_of b)) t (λ o. full 6 o.marks) (marked c.args.mark) c.in_default.ensures.value same;
       operations = row_same op_place r (λ l. l) t same;
       calls = refl;
     }
