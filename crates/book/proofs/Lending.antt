@@ -1,6 +1,6 @@
 -- A table t that came of a table r by lending its last row, as a change of what stands for it: `g` is the meaning of a row, and `are` says what stands for a table with such meanings.
 -- The last row is changed by f unless p says that there is no room; without a last row nothing is.
-use Rattle.std.proofs.Common.{◌≡◌, ℕ, Bool, false, cond, List, map, Some, None, Option, sym, ap, ap₂, ◌∙◌}
+use Rattle.std.proofs.Common.{◌≡◌, ℕ, Bool, false, cond, List, map, Some, None, Option, sym, ap, ◌∙◌}
 use Rattle.book.specs.Books.{or_else}
 use Rattle.tables.proofs.Lent.{meant_last, meant_none, row_same, row_taken}
 use Rattle.tables.specs.Lists.{last_of, in_last}

@@ -1,4 +1,4 @@
-use Rattle.std.proofs.Common.{◌≡◌, ℕ, eqb, List, [], ◌∷◌, ◌||◌, refl, ap, ◌∙◌, rules}
+use Rattle.std.proofs.Common.{◌≡◌, ℕ, eqb, List, [], ◌∷◌, ◌||◌, refl, ap, ◌∙◌}
 use Rattle.book.proofs.marks.has.Goals as goal
 use Rattle.book.specs.Books.{has}
 use Rattle.std.specs.List.{list_any}

@@ -1,4 +1,4 @@
-use Rattle.std.proofs.Common.{◌≡◌, map, OnOk, sym, ◌∙◌, subst, rules}
+use Rattle.std.proofs.Common.{◌≡◌, map, OnOk, sym, ◌∙◌, subst}
 use Rattle.format.proofs.Readings.{refusal_same}
 use Rattle.format.proofs.reading.read.Goals as goal
 use Rattle.format.specs.Format.{read_file, name_places}

@@ -1,10 +1,9 @@
-use Rattle.std.proofs.Common.{◌≡◌, ℕ, ◌<◌, List, map, length, Option, ap, sym, ◌∙◌, arith, rules}
+use Rattle.std.proofs.Common.{ℕ, ◌<◌, length, Option, ap, ◌∙◌, arith, rules}
 use Rattle.format.proofs.Readings.{more_places, step_made, step_refused, step_places}
 use Rattle.format.proofs.Turns.{next_turn, turn_places, last_turn, shorter}
 use Rattle.format.proofs.reading.read_commands.Given as given
 use Rattle.format.proofs.reading.read_commands.Goals.{In-Ok}
 use Rattle.format.proofs.reading.read_commands.Goals as goal
-use Rattle.format.specs.Format.{name_places}
 use Rattle.format.specs.Readings.{one_more}
 use Rattle.format.specs.Refusals.{number_of}
 

@@ -1,7 +1,7 @@
 use Rattle.policy.proofs.Walks.{none_walked, first_grown}
 use Rattle.policy.proofs.table.Table.coverage.Goals as goal
 use Rattle.policy.specs.Meaning.{policy_of}
-use Rattle.std.proofs.Common.{◌≡◌, false, length, replicate, arith, rules}
+use Rattle.std.proofs.Common.{◌≡◌, false, length, replicate, arith}
 
 pub walk-requires : goal.walk-requires
 walk-requires c = none_walked (policy_of c.args.self.now).groups (replicate 64 false)

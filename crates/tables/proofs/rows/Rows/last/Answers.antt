@@ -1,7 +1,6 @@
-use Rattle.std.proofs.Common.{arith, rules}
+use Rattle.std.proofs.Common.{rules}
 use Rattle.tables.proofs.Lasts.{last_of-get}
 use Rattle.tables.proofs.rows.Rows.last.Goals as goal
-use Rattle.tables.specs.Rows.{rows_of}
 
 pub returns : goal.returns
 returns g c = search (rules, last_of-get)
