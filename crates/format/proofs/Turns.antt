@@ -1,5 +1,5 @@
 -- The turns of a reader that goes through a file command by command.
-use Rattle.std.proofs.Common.{◌≡◌, ℕ, zero, suc, ◌+◌, ◌-◌, ◌<◌, ◌≤◌, cond, ltb, List, [], ◌∷◌, ◌++◌, length, drop, Ok, Err, Option, Result, sym, refl, ap, ◌∙◌, subst, le_of_suc-le-suc, not-suc-le-zero, add-zero, add-suc, suc-add, zero-add, arith, le-leb}
+use Rattle.std.proofs.Common.{◌≡◌, ℕ, zero, suc, ◌+◌, ◌-◌, ◌<◌, ◌≤◌, ltb, List, [], ◌∷◌, ◌++◌, length, drop, Ok, Err, Option, Result, sym, refl, ap, ◌∙◌, subst, le_of_suc-le-suc, not-suc-le-zero, add-zero, add-suc, suc-add, zero-add, arith, le-leb}
 use Rattle.format.proofs.Bytes.{bytes_drop}
 use Rattle.format.proofs.Places.{joined_push, places_push}
 use Rattle.format.proofs.Tests.{passed}
@@ -81,10 +81,6 @@ module _ (F : Format) (H : Holds F) where
   stops [] at b n h e = absurd (not-suc-le-zero h)
   stops (x ∷ xs) at b n h e = ap (λ (o : Result (F.Whole × List ℕ) ℕ). turn o at (length xs) (λ q d. go F q xs (suc at) d)) (sym e)
 
-  ends : (xs : List ℕ) (at : ℕ) (b : F.Whole) → length xs ≤ 0 → go F 0 xs at b ≡ cond (F.unfinished b) (Err (refused_at 9 at)) (Ok b)
-  ends [] at b h = refl
-  ends (x ∷ xs) at b h = absurd (not-suc-le-zero h)
-
   pub short_file : (file : List ℕ) → length file ≤ F.longest → read_file F file ≡ go F 0 file 0 F.empty
   short_file file h = cond-false (ltb F.longest (length file)) (Err (refused_at 4 0)) (go F 0 file 0 F.empty) (lt-leb (suc F.longest) (length file) (omega arith))
 
@@ -93,10 +89,6 @@ module _ (F : Format) (H : Holds F) where
   -- a file that is too long is refused before the first turn
   pub long_file : (file : List ℕ) → F.longest < length file → read_file F file ≡ Err (refused_at 4 0)
   long_file file h = cond-true (ltb F.longest (length file)) (Err (refused_at 4 0)) (go F 0 file 0 F.empty) (le-leb (suc F.longest) (length file) h)
-
-  -- before the first turn
-  pub first_turn : (file : List ℕ) → Bytes file → length file ≤ F.longest → Turn F file file 0 F.empty
-  first_turn file bs h = record { short = h; bytes = bs; same = short_file file h; so_far = H.start; read = sym (ap (λ (cs : List F.Command). length (flat_map F.bytes_of cs)) H.nothing); left = zero-add (length file) }
 
   module _ (file rest : List ℕ) (at : ℕ) (b : F.Whole) (t : Turn F file rest at b) where
     -- the places of names after a step: those before it, and that of the command's own name where it has one
@@ -127,7 +119,3 @@ module _ (F : Format) (H : Holds F) where
     -- a step that was refused
     pub last_turn : (n : ℕ) → 0 < length rest → Err n ≡ step_of F rest b → read_file F file ≡ Err (refused_at n at)
     last_turn n h e = t.same ∙ stops rest at b n h e
-
-    -- nothing is left
-    pub end_turn : length rest ≤ 0 → read_file F file ≡ cond (F.unfinished b) (Err (refused_at 9 at)) (Ok b)
-    end_turn h = t.same ∙ ends rest at b h

@@ -3,6 +3,5 @@ pub mod Coverage
 pub mod Few
 pub mod Items
 mod Handing
-mod Lacks
 mod Others
 mod Walks

@@ -121,9 +121,6 @@ no_group : (gs : List Gr) (g o : ℕ) → None ≡ slice_get gs g → Covers gs 
 no_group gs g o e (by_has a) = let b = subst (λ (n : List Member). Among n (Has o)) (ap (or_else [] members_of) (sym e)) a in let l : b.0 < 0 = b.1 in omega arith
 no_group gs g o e (by_nest h a m t) = let b = subst (λ (n : List Member). Among n (Nest h)) (ap (or_else [] members_of) (sym e)) a in let l : b.0 < 0 = b.1 in omega arith
 
-pub none_grown : (gs : List Gr) (g : ℕ) (covers : List Bool) → None ≡ slice_get gs g → Grown gs g covers covers
-none_grown gs g covers e o l = (λ h. inl h, ⊎_elim (λ h. h) (λ t. absurd (no_group gs g o e t)))
-
 some_none : {X : Type 0} (x : X) → ◌≡◌ {A = Option X} (Some x) None → ⊥
 some_none x e = let z : ◌≡◌ {A = ℕ} 0 1 = cc in omega arith
 

@@ -1,5 +1,5 @@
 -- The spaces at the end of a name taken off one by one, and its letters written one by one.
-use Rattle.std.proofs.Common.{◌≡◌, ℕ, zero, suc, ◌+◌, ◌<◌, eqb, List, [], ◌∷◌, ◌++◌, length, get_or, take, refl, ap, append-nil, arith, ne_eqb}
+use Rattle.std.proofs.Common.{◌≡◌, ℕ, zero, suc, ◌+◌, ◌<◌, eqb, List, [], ◌∷◌, ◌++◌, length, get_or, take, ap, append-nil, arith, ne_eqb}
 use Rattle.std.proofs.lemmas.List.{take_more}
 use Rattle.std.proofs.lemmas.Bool.{cond-false}
 use Rattle.std.proofs.lemmas.Str.{encodes-append}
@@ -21,11 +21,6 @@ trim_other (x ∷ []) zero h e = cond-false (eqb x 32) [] (x ∷ []) (ne_eqb x 3
 trim_other (x ∷ []) (suc n) h e = absurd (omega arith)
 trim_other (x ∷ (y ∷ ys)) zero h e = absurd (omega arith)
 trim_other (x ∷ (y ∷ ys)) (suc n) h e = ap (kept x) (trim_other (y ∷ ys) n (omega arith) e)
-
--- nothing stays nothing
-pub trim_none : (xs : List ℕ) → length xs ≡ 0 → trimmed xs ≡ xs
-trim_none [] h = refl
-trim_none (x ∷ xs) h = absurd (omega arith)
 
 -- one letter more, as it is written
 pub written_more : (xs : List ℕ) (i : ℕ) → i < length xs → encodes (take i xs) ++ encode (get_or xs i 0) ≡ encodes (take (i + 1) xs)

@@ -1,16 +1,7 @@
-use Rattle.policy.proofs.Walks.{at_has, at_has_over, at_nest, at_nest_over, grown, complete, none_grown, members_are, group_within}
+use Rattle.policy.proofs.Walks.{at_has, at_has_over, at_nest, at_nest_over, grown, complete, members_are, group_within}
 use Rattle.policy.proofs.table.Table.+walk.Goals as goal
 use Rattle.policy.specs.Meaning.{gr_of, policy_of}
 use Rattle.std.proofs.Common.{sym, ◌∙◌, arith}
-
-pub returns-in_default : goal.returns-in_default
-returns-in_default t c = record {
-  complete = c.requires;
-  grown = none_grown _ _ _ c.in_default.ensures;
-}
-
-pub bounds-walk-number : goal.bounds-walk-number
-bounds-walk-number t c = group_within c.args.self.now c.args.number (gr_of c.in-Some.group.now) c.in-Some.ensures
 
 pub bounds-walk-number-2 : goal.bounds-walk-number-2
 bounds-walk-number-2 t c = group_within c.args.self.now c.args.number (gr_of c.in-Some.group.now) c.in-Some.ensures
