@@ -4,7 +4,7 @@ use Rattle.book.specs.Books.{Op, Cl, Bk, or_else, marks_at, marked, fielded, pre
 use Rattle.book.specs.declared.table.Act.{Act}
 use Rattle.book.specs.declared.table.After.{After}
 use Rattle.book_file.specs.Changes.{obey}
-use Rattle.book_file.specs.Operands.{act_of, condition_of}
+use Rattle.book.specs.Operands.{act_of, condition_of}
 use Rattle.book_file.specs.Tests.{misplaced, crowded, outside, undefined, taken, lacking, command_tests, acted, begun, answered}
 use Rattle.book_file.specs.declared.commands.Command.TheVariants.{Field, Before, Act as ACT, After as AFTER}
 use Rattle.book_file.specs.declared.commands.Command.{Command}

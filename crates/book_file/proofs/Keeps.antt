@@ -9,7 +9,7 @@ use Rattle.book_file.proofs.Ends.{book, call, Fits, view, mark_crowded, mark_tak
 use Rattle.book_file.proofs.Parts.{all_mid, all_swap, apart_push, full_less, named_out, name_is, marks_push, has_all_true, met_there, act_is, condition_is}
 use Rattle.book_file.specs.Changes.{obey}
 use Rattle.book_file.specs.Law.{of_op, of_cl, as_field, as_before, as_act, as_after, act_number, condition_number, commands_of, Apart, Met, LawfulOp, LawfulCl, Lawful}
-use Rattle.book_file.specs.Operands.{act_of}
+use Rattle.book.specs.Operands.{act_of}
 use Rattle.book_file.specs.Tests.{answered}
 use Rattle.book_file.specs.declared.commands.Command.TheVariants.{Operation, Field, Call, Before, Act as ACT, After as AFTER}
 use Rattle.book_file.specs.declared.commands.Command.{Command}

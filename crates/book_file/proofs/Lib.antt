@@ -4,7 +4,9 @@ pub mod Keeps
 mod Law
 mod Outcome
 pub mod Parts
+mod Names
 pub mod Places
 pub mod Runs
 mod Size
+pub mod Slices
 mod Steps

@@ -7,7 +7,7 @@ use Rattle.book.specs.declared.table.Act.{Act}
 use Rattle.book.specs.declared.table.Condition.TheVariants.{Always, NotZero, Zero}
 use Rattle.book.specs.declared.table.Condition.{Condition}
 use Rattle.book_file.specs.Law.{Apart, Prints, Proper, Marked, Met, act_number, condition_number}
-use Rattle.book_file.specs.Operands.{act_of, condition_of}
+use Rattle.book.specs.Operands.{act_of, condition_of}
 use Rattle.std.proofs.ByRecursion.{All-push, Decides-by_and}
 use Rattle.std.proofs.lemmas.Slice.Eq.{bytes_eq-Decides}
 use Rattle.std.proofs.lemmas.List.{length-append, length_push}

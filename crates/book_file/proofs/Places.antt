@@ -9,7 +9,7 @@ use Rattle.book_file.specs.declared.commands.Command.{Command}
 use Rattle.format.proofs.Law.{of_left}
 use Rattle.format.proofs.Places.{joined_append, places_append, Quiet, quiet_append, quiet_map, quiet_joined, Named, names_stand}
 use Rattle.format.specs.Bytes.{Bytes}
-use Rattle.format.specs.Format.{place_of, places_in, name_places, written, read_file, whole_left, Stand}
+use Rattle.format.specs.Format.{Format, Holds, place_of, places_in, name_places, written, read_file, whole_left, Stand}
 use Rattle.std.proofs.lemmas.List.{append-nil, append_assoc, take_at}
 use Rattle.std.specs.List.{flat_map}
 
@@ -81,14 +81,14 @@ module _ (b : Bk) where
       subst₂ (λ (l ps : List ℕ). Stand l ps (map cl_name b.calls)) file places (names_stand bytes_of call_name of_cl cl_name 1 call_named b.calls (flat_map bytes_of ops) [])
 
 -- what a reader leaves: the names of the file, or none
-pub operations_stand : (file : List ℕ) → Bytes file → (b : Bk) → b ≡ whole_left book_format (read_file book_format file) → Stand file (name_places book_format operation_name b) (map op_name b.operations)
-operations_stand file bs b e = subst P (sym e) (of_left book_format holds file bs P tt (λ a w. subst (λ (l : List ℕ). Stand l (name_places book_format operation_name a) (map op_name a.operations)) (sym w.is) (operations_written a)))
+pub stand_left : (F : Format) → Holds F → (file : List ℕ) → Bytes file → (behind : F.Command → Option ℕ) (names : F.Whole → List (List ℕ)) → Stand file (name_places F behind F.empty) (names F.empty) → ((a : F.Whole) → Stand (written F a) (name_places F behind a) (names a)) → (b : F.Whole) → b ≡ whole_left F (read_file F file) → Stand file (name_places F behind b) (names b)
+stand_left F H file bs behind names none all b e = subst P (sym e) (of_left F H file bs P none (λ a w. subst (λ (l : List ℕ). Stand l (name_places F behind a) (names a)) (sym w.is) (all a)))
   where
-    P : Bk → Type 0
-    P a = Stand file (name_places book_format operation_name a) (map op_name a.operations)
+    P : F.Whole → Type 0
+    P a = Stand file (name_places F behind a) (names a)
+
+pub operations_stand : (file : List ℕ) → Bytes file → (b : Bk) → b ≡ whole_left book_format (read_file book_format file) → Stand file (name_places book_format operation_name b) (map op_name b.operations)
+operations_stand file bs = stand_left book_format holds file bs operation_name (λ b. map op_name b.operations) tt operations_written
 
 pub calls_stand : (file : List ℕ) → Bytes file → (b : Bk) → b ≡ whole_left book_format (read_file book_format file) → Stand file (name_places book_format call_name b) (map cl_name b.calls)
-calls_stand file bs b e = subst P (sym e) (of_left book_format holds file bs P tt (λ a w. subst (λ (l : List ℕ). Stand l (name_places book_format call_name a) (map cl_name a.calls)) (sym w.is) (calls_written a)))
-  where
-    P : Bk → Type 0
-    P a = Stand file (name_places book_format call_name a) (map cl_name a.calls)
+calls_stand file bs = stand_left book_format holds file bs call_name (λ b. map cl_name b.calls) tt calls_written

@@ -1,5 +1,4 @@
 pub mod Commands
-pub mod Operands
 pub mod Changes
 pub mod Tests
 pub mod Law

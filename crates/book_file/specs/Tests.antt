@@ -1,9 +1,9 @@
 -- What may speak against a command, in the order of the refusals' numbers; each test sees the book as read so far and the command.
 use Rattle.std.specs.Prelude.{ℕ, Bool, true, false, cond, not, ◌||◌, List, [], ◌∷◌, map, is_some, Ok, Err, Result, ◌==◌}
-use Rattle.book.specs.Books.{Cl, Bk, or_else, op_name, cl_name, marks_at, filled, full, has, has_all, named, act_needs}
+use Rattle.book.specs.Books.{Op, Cl, Bk, or_else, op_name, cl_name, marks_at, filled, full, has, has_all, named, act_needs}
 use Rattle.book_file.specs.Changes.{obey}
 use Rattle.book_file.specs.Commands.{command_at, unknown}
-use Rattle.book_file.specs.Operands.{act_of, condition_of}
+use Rattle.book.specs.Operands.{act_of, condition_of}
 use Rattle.book_file.specs.declared.commands.Command.TheVariants.{Operation, Field, Call, Before, Act as ACT, After as AFTER}
 use Rattle.book_file.specs.declared.commands.Command.{Command}
 use Rattle.format.specs.Bytes.{cut_off, on_bytes}
@@ -29,6 +29,14 @@ answered c = 255 ∷ c.fields
 -- a mark beside others, of which there may be so many, and none of the reserved ones; or the number of the first test that speaks against it
 abbrev pub mark_judged : List ℕ → ℕ → List ℕ → ℕ → Result (Unit {0}) ℕ
 mark_judged marks most reserved m = cond (full most marks) (Err 4) (cond (has reserved m) (Err 5) (cond (has marks m) (Err 7) (Ok tt)))
+
+-- a name beside others, of which there may be so many; or the number of the first test that speaks against it
+abbrev pub name_judged : List (List ℕ) → ℕ → List ℕ → Result (Unit {0}) ℕ
+name_judged names most n = cond (full most names) (Err 4) (cond (not (proper n)) (Err 5) (cond (named names n) (Err 7) (Ok tt)))
+
+-- a step of operation k, filled from those marks; or the number of the first test that speaks against it
+abbrev pub step_judged : List Op → ℕ → List ℕ → Result (Unit {0}) ℕ
+step_judged ops k marks = cond (not (is_some (slice_get ops k))) (Err 6) (cond (not (has_all marks (marks_at ops k))) (Err 8) (Ok tt))
 
 -- The tests from 3 on.
 

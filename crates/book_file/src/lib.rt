@@ -4,5 +4,4 @@
 
 mod changes;
 pub mod commands;
-mod operands;
 pub mod reading;

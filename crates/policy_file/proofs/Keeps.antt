@@ -22,7 +22,8 @@ use Rattle.policy_file.proofs.Ends.{policy, clause, Fits, member_crowded, member
 use Rattle.policy_file.proofs.Parts.{numbered_push, numbered_swap, before_push, all_acted, there, below, comparison_is, Basic, term_is, applies_defined, term_lawful}
 use Rattle.policy_file.specs.Changes.{obey}
 use Rattle.policy_file.specs.Law.{as_cell, as_member, as_target, as_when, as_action, of_gr, of_cs, commands_of, raw_of, LawfulMember, LawfulGr, LawfulTarget, LawfulTerm, LawfulWhen, LawfulCs, Acted, SoFar}
-use Rattle.policy_file.specs.Terms.{comparison_of, term_of, when_with, write_with}
+use Rattle.policy.specs.Comparisons.{comparison_of}
+use Rattle.policy_file.specs.Terms.{term_of, when_with, write_with}
 use Rattle.policy_file.specs.Tests.{lacks_in}
 use Rattle.policy_file.specs.declared.commands.Command.TheVariants.{Cell as CELL, Group as GROUP, Has as HAS, Nest as NEST, On as ON, OnGroup as ONGROUP, When as WHEN, Violate as VIOLATE, Write as WRITE}
 use Rattle.policy_file.specs.declared.commands.Command.{Command}

@@ -16,7 +16,8 @@ use Rattle.policy.specs.declared.table.Target.{Target}
 use Rattle.policy.specs.declared.table.Term.TheVariants.{Number, Field, Cell}
 use Rattle.policy.specs.declared.table.Term.{Term}
 use Rattle.policy_file.specs.Law.{Numbered, before_last, LawfulMember, LawfulGr, LawfulTarget, LawfulTerm, Acted, raw_of, comparison_number}
-use Rattle.policy_file.specs.Terms.{comparison_of, is_mark, known, term_of}
+use Rattle.policy.specs.Comparisons.{comparison_of}
+use Rattle.policy_file.specs.Terms.{is_mark, known, term_of}
 use Rattle.policy_file.specs.Tests.{absent}
 use Rattle.policy_file.specs.declared.commands.RawTerm.{RawTerm}
 use Rattle.std.proofs.ByRecursion.{all-has}

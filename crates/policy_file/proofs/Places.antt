@@ -1,8 +1,7 @@
 -- In the file that was read, the label of each clause stands at its place.
-use Rattle.std.proofs.Common.{◌≡◌, ℕ, ◌+◌, ◌≤◌, List, [], ◌∷◌, ◌++◌, map, length, Some, None, Option, sym, refl, ap, ◌∙◌, subst, subst₂, zero-add}
+use Rattle.std.proofs.Common.{◌≡◌, ℕ, ◌+◌, ◌≤◌, List, [], ◌∷◌, ◌++◌, map, length, Some, None, Option, sym, refl, ap, ◌∙◌, subst₂, zero-add}
 use Rattle.book.specs.Books.{Bk}
-use Rattle.book_file.proofs.Places.{name_there}
-use Rattle.format.proofs.Law.{of_left}
+use Rattle.book_file.proofs.Places.{name_there, stand_left}
 use Rattle.format.proofs.Places.{joined_append, places_append, Quiet, quiet_append, quiet_map, quiet_joined, Named, names_stand}
 use Rattle.format.specs.Bytes.{Bytes}
 use Rattle.format.specs.Format.{places_in, name_places, written, read_file, whole_left, Stand}
@@ -64,7 +63,4 @@ module _ (b : Bk) (p : Po) where
 
 -- what a reader leaves: the labels of the file, or none
 pub labels_stand : (b : Bk) → length b.operations ≤ 64 → (file : List ℕ) → Bytes file → (p : Po) → p ≡ whole_left (policy_format b) (read_file (policy_format b) file) → Stand file (name_places (policy_format b) label_name p) (map cs_label p.clauses)
-labels_stand b short file bs p e = subst P (sym e) (of_left (policy_format b) (holds b short) file bs P tt (λ a w. subst (λ (l : List ℕ). Stand l (name_places (policy_format b) label_name a) (map cs_label a.clauses)) (sym w.is) (labels_written b a)))
-  where
-    P : Po → Type 0
-    P a = Stand file (name_places (policy_format b) label_name a) (map cs_label a.clauses)
+labels_stand b short file bs = stand_left (policy_format b) (holds b short) file bs label_name (λ p. map cs_label p.clauses) tt (labels_written b)

@@ -1,12 +1,12 @@
 -- The commands of a policy so far, one after the other, make that policy.
 use Rattle.std.proofs.Common.{◌≡◌, ℕ, ◌+◌, ◌<◌, ◌≤◌, Bool, false, not, List, [], ◌∷◌, ◌++◌, map, length, is_some, Some, None, Option, sym, refl, ap, ◌∙◌, subst, arith}
-use Rattle.book.specs.Books.{Op, Bk, or_else}
+use Rattle.book.specs.Books.{Op, Bk, or_else, full, named}
 use Rattle.book_file.proofs.Parts.{all_mid, less_full, shorter_front, out_named, is_name}
 use Rattle.book_file.proofs.Runs.{unlike}
-use Rattle.book_file.specs.Law.{Apart}
+use Rattle.book_file.specs.Law.{Apart, Proper}
 use Rattle.format.proofs.Runs.{Ran, ran_append, ran_joined, ran_map}
 use Rattle.policy.specs.Coverage.{Gr, applies_to, flags}
-use Rattle.policy.specs.Policies.{Cs, Po, empty_policy, cs_label, guarded, acting, with_clause, lacks}
+use Rattle.policy.specs.Policies.{Cs, Po, empty_policy, cs_label, unfinished, guarded, acting, with_clause, lacks}
 use Rattle.policy.specs.declared.table.Action.TheVariants.{Violate, Write}
 use Rattle.policy.specs.declared.table.Action.{Action}
 use Rattle.policy.specs.declared.table.Comparison.{Comparison}
@@ -21,8 +21,9 @@ use Rattle.policy_file.proofs.Ends.{policy, clause, Fits, member_misplaced, memb
 use Rattle.policy_file.proofs.Parts.{numbered_mid, before_front, none_pending, not_absent, not_below, comparison_back, term_known, term_back, lawful_basic, lawful_lacks}
 use Rattle.policy_file.specs.Changes.{obey}
 use Rattle.policy_file.specs.Law.{as_cell, as_member, as_target, as_when, as_action, of_gr, of_cs, commands_of, comparison_number, raw_of, Numbered, before_last, LawfulMember, LawfulGr, LawfulTarget, LawfulTerm, LawfulWhen, LawfulAction, LawfulCs, Acted, SoFar}
-use Rattle.policy_file.specs.Terms.{comparison_of, term_of, when_with, write_with}
-use Rattle.policy_file.specs.Tests.{lacks_in}
+use Rattle.policy.specs.Comparisons.{comparison_of}
+use Rattle.policy_file.specs.Terms.{term_of, when_with, write_with}
+use Rattle.policy_file.specs.Tests.{undefined, lacks_in}
 use Rattle.policy_file.specs.declared.commands.Command.{Command}
 use Rattle.std.proofs.lemmas.List.{length_push}
 use Rattle.std.proofs.lemmas.Bool.{or_from}
@@ -145,9 +146,19 @@ module _ (b : Bk) where
   abbrev Clauses : List ℕ → List Gr → List Cs → Type 0
   Clauses vs gs cs = (length cs ≤ 256) × Apart (map cs_label cs) × AllByRecursion (LawfulCs ops vs gs) cs × AllByRecursion Acted (before_last cs)
 
-  target_good : (vs : List ℕ) (gs : List Gr) (ds : List Cs) (c : Cs) (cs : List Cs) (t : Target) → LawfulTarget ops gs t → Clauses vs gs (ds ++ c ∷ cs) → Good (policy vs gs ds) (as_target t c.label)
-  target_good vs gs ds c cs (Operation o) d h = let k = all_mid (LawfulCs ops vs gs) ds c cs h.2 in (k.label.eight, record { placed = none_pending ds (before_front Acted ds c cs h.3); room = less_full 256 ds (shorter_front 256 ds c cs h.0); inside = is_name (cs_label c) k.label; defined = not_absent ops o d; fresh = out_named (map cs_label ds) (cs_label c) (unlike cs_label ds c cs h.1); met = refl })
-  target_good vs gs ds c cs (Group g) d h = let k = all_mid (LawfulCs ops vs gs) ds c cs h.2 in (k.label.eight, record { placed = none_pending ds (before_front Acted ds c cs h.3); room = less_full 256 ds (shorter_front 256 ds c cs h.0); inside = is_name (cs_label c) k.label; defined = not_absent gs g d; fresh = out_named (map cs_label ds) (cs_label c) (unlike cs_label ds c cs h.1); met = refl })
+  target_there : (p : Po) (t : Target) (n : Name) → LawfulTarget ops p.groups t → undefined ops p (as_target t n) ≡ false
+  target_there p (Operation o) n d = not_absent ops o d
+  target_there p (Group k) n d = not_absent p.groups k d
+
+  target_fits : (p : Po) (t : Target) (n : Name) → Proper n.letters → unfinished p ≡ false → full 256 p.clauses ≡ false → undefined ops p (as_target t n) ≡ false → named (map cs_label p.clauses) n.letters ≡ false → Good p (as_target t n)
+  target_fits p (Operation o) n w u f d q = (w.eight, record { placed = u; room = f; inside = is_name n.letters w; defined = d; fresh = q; met = refl })
+  target_fits p (Group k) n w u f d q = (w.eight, record { placed = u; room = f; inside = is_name n.letters w; defined = d; fresh = q; met = refl })
+
+  target_good : (vs : List ℕ) (gs : List Gr) (ds : List Cs) (c : Cs) (cs : List Cs) → LawfulTarget ops gs c.target → Clauses vs gs (ds ++ c ∷ cs) → Good (policy vs gs ds) (as_target c.target c.label)
+  target_good vs gs ds c cs d h =
+      let p = policy vs gs ds in
+      let k = all_mid (LawfulCs ops vs gs) ds c cs h.2 in
+      target_fits p c.target c.label k.label (none_pending ds (before_front Acted ds c cs h.3)) (less_full 256 ds (shorter_front 256 ds c cs h.0)) (target_there p c.target c.label d) (out_named (map cs_label ds) (cs_label c) (unlike cs_label ds c cs h.1))
 
   target_obey : (p : Po) (t : Target) (n : Name) → obey p (as_target t n) ≡ with_clause t n p
   target_obey p (Operation o) n = refl
@@ -160,7 +171,7 @@ module _ (b : Bk) where
       let t = c.target in
       let parts : List Command = map as_when c.whens ++ as_action c.action in
       let made : Made parts (ending vs gs ds n t [] None) (ending vs gs ds n t c.whens c.action) = ran_append obey Good _ _ _ _ _ (whens_ran vs gs ds n t c.whens (k.few_whens, k.whens)) (action_ran vs gs ds n t c.whens c.action k.action) in
-      (target_good vs gs ds c cs t k.target h, subst (λ (p : Po). Made parts p (policy vs gs (ds ++ c ∷ []))) (sym (target_obey (policy vs gs ds) t n)) (subst (λ (fs : List Bool). Made parts (ending vs gs ds n t [] None) (policy vs gs (ds ++ clause n t fs c.whens c.action ∷ []))) (sym k.covers) made))
+      (target_good vs gs ds c cs k.target h, subst (λ (p : Po). Made parts p (policy vs gs (ds ++ c ∷ []))) (sym (target_obey (policy vs gs ds) t n)) (subst (λ (fs : List Bool). Made parts (ending vs gs ds n t [] None) (policy vs gs (ds ++ clause n t fs c.whens c.action ∷ []))) (sym k.covers) made))
 
   clauses_ran : (vs : List ℕ) (gs : List Gr) (cs : List Cs) → Clauses vs gs cs → Made (flat_map of_cs cs) (policy vs gs []) (policy vs gs cs)
   clauses_ran vs gs = ran_joined obey Good of_cs (policy vs gs) (Clauses vs gs) (clause_ran vs gs)

@@ -1,18 +1,14 @@
--- The comparisons and terms that operands stand for.
+-- The terms and conditions that operands stand for.
 use Rattle.std.specs.Prelude.{ℕ, Bool, true, false, cond, List, length, Some, None, Option, ◌==◌, nat_le, nat_lt}
+use Rattle.policy.specs.Comparisons.{comparison_of}
 use Rattle.policy.specs.declared.table.Action.TheVariants.{Write}
 use Rattle.policy.specs.declared.table.Action.{Action}
-use Rattle.policy.specs.declared.table.Comparison.TheVariants.{Equal, Unequal, Less, AtMost}
 use Rattle.policy.specs.declared.table.Comparison.{Comparison}
 use Rattle.policy.specs.declared.table.Term.TheVariants.{Number, Field, Cell}
 use Rattle.policy.specs.declared.table.Term.{Term}
 use Rattle.policy.specs.declared.table.When.{When}
 use Rattle.policy.specs.declared.table.Write.{Write as Change}
 use Rattle.policy_file.specs.declared.commands.RawTerm.{RawTerm}
-
--- the comparison that an operand of WHEN stands for, where it stands for one
-abbrev pub comparison_of : ℕ → Option Comparison
-comparison_of q = cond (q == 0) (Some Equal) (cond (q == 1) (Some Unequal) (cond (q == 2) (Some Less) (cond (q == 3) (Some AtMost) None)))
 
 -- a number that is a mark: 1 to 255
 abbrev pub is_mark : ℕ → Bool

@@ -6,7 +6,8 @@ use Rattle.format.specs.Format.{unless}
 use Rattle.policy.specs.Policies.{Cs, Po, cs_label, unfinished, lacks}
 use Rattle.policy_file.specs.Changes.{obey}
 use Rattle.policy_file.specs.Commands.{command_at, unknown}
-use Rattle.policy_file.specs.Terms.{comparison_of, known, term_of}
+use Rattle.policy.specs.Comparisons.{comparison_of}
+use Rattle.policy_file.specs.Terms.{known, term_of}
 use Rattle.policy_file.specs.declared.commands.Command.TheVariants.{Cell as CELL, Group as GROUP, Has as HAS, Nest as NEST, On as ON, OnGroup as ONGROUP, When as WHEN, Violate as VIOLATE, Write as WRITE}
 use Rattle.policy_file.specs.declared.commands.Command.{Command}
 use Rattle.policy_file.specs.declared.commands.RawTerm.{RawTerm}

@@ -1,28 +1,52 @@
 // What each command does to a table: the tests in the order of their numbers, and then the change.
-ghost use Rattle.std.specs.Prelude.{◌≡◌, not, [], ◌∷◌, ◌++◌, ◌+◌, OnOk};
+#![tactic(auto, using(book_file::proofs::Slices::slices))]
+
+ghost use Rattle.std.specs.Prelude.{◌≡◌, not, [], ◌∷◌, ◌++◌, ◌+◌, true, false, Some, None, OnOk};
 ghost use Rattle.book.specs.Meaning.{book_of};
 ghost use Rattle.format.specs.Format.{place_of};
 ghost use Rattle.format.specs.Refusals.{told};
-ghost use Rattle.policy.specs.Meaning.{policy_of, label_places};
+ghost use Rattle.format.specs.declared.refusal.Refusal.TheVariants.{OutOfTurn};
+ghost use Rattle.policy.specs.Policies.{unfinished};
+ghost use Rattle.policy.specs.Meaning.{gr_of, cs_of, policy_of, label_places};
+ghost use Rattle.policy_file.specs.Changes.{SameBeside};
 ghost use Rattle.policy_file.specs.Law.{as_member, as_target, label_name};
 ghost use Rattle.policy_file.specs.Tests.{judged, undefined};
 ghost use Rattle.policy_file.specs.declared.commands.Command.TheVariants.{Cell as CELL, Group as GROUP, When as WHEN, Violate as VIOLATE, Write as WRITE};
+ghost use Rattle.std.specs.Result.{MatchResult};
+ghost use Rattle.tables.specs.Lists.{last_of};
 
 use crate::commands::{Command, RawTerm};
-use crate::terms::comparison_of;
 use format::refusal::Refusal;
 use policy::table::{
-    Action, CELLS, CLAUSES, GROUPS, MEMBERS, Member, Table, Target, WHENS, When, Write,
+    Action, CELLS, CLAUSES, Clause, Comparison, GROUPS, Group, MEMBERS, Member, Table, Target,
+    WHENS, When, Write,
 };
 use tables::name::{Name, Placed};
+
+// The group begun last.
+fn last_group(table: &Table) -> Result<&Group, Refusal>
+    ensures { MatchResult result (λ group. last_of (policy_of table.now).groups ≡ Some (gr_of group.now)) (λ e. (e ≡ OutOfTurn) × (last_of (policy_of table.now).groups ≡ None)) }
+{
+    table.groups().last().ok_or(Refusal::OutOfTurn)
+}
+
+// The clause begun last, while it wants its action.
+fn open_clause(table: &Table) -> Result<&Clause, Refusal>
+    ensures { MatchResult result (λ clause. (last_of (policy_of table.now).clauses ≡ Some (cs_of clause.now)) × (unfinished (policy_of table.now) ≡ true)) (λ e. (e ≡ OutOfTurn) × (unfinished (policy_of table.now) ≡ false)) }
+{
+    let clause = table.clauses().last().ok_or(Refusal::OutOfTurn)?;
+    if clause.action().is_some() {
+        return Err(Refusal::OutOfTurn);
+    }
+    Ok(clause)
+}
 
 // CELL: one more cell, with its first value.
 fn add_cell(table: &mut Table, first: u32) -> Result<(), Refusal>
     ensures is { told result (policy_of table.new) ≡ judged (book_of table.old.book) (policy_of table.old) (CELL first) }
-    ensures book { table.new.book ≡ table.old.book }
-    ensures places { label_places table.new ≡ label_places table.old }
+    ensures beside { SameBeside table.old table.new }
 {
-    if table.last_group().is_some() || table.last_clause().is_some() {
+    if !table.groups().is_empty() || !table.clauses().is_empty() {
         return Err(Refusal::OutOfTurn);
     }
     if table.cells().len() >= CELLS {
@@ -35,13 +59,12 @@ fn add_cell(table: &mut Table, first: u32) -> Result<(), Refusal>
 // GROUP: begins a group.
 fn add_group(table: &mut Table) -> Result<(), Refusal>
     ensures is { told result (policy_of table.new) ≡ judged (book_of table.old.book) (policy_of table.old) GROUP }
-    ensures book { table.new.book ≡ table.old.book }
-    ensures places { label_places table.new ≡ label_places table.old }
+    ensures beside { SameBeside table.old table.new }
 {
-    if table.last_clause().is_some() {
+    if !table.clauses().is_empty() {
         return Err(Refusal::OutOfTurn);
     }
-    if table.group_count() >= GROUPS {
+    if table.groups().len() >= GROUPS {
         return Err(Refusal::OverCount);
     }
     table.push_group();
@@ -53,21 +76,24 @@ fn is_member(table: &Table, member: Member) -> bool
     ensures { not result ≡ undefined (book_of table.now.book).operations (policy_of table.now) (as_member member) }
 {
     match member {
-        Member::Has(operation) => table.book().operation(operation as usize).is_some(),
-        Member::Nest(inner) => (inner as usize + 1) < table.group_count(),
+        Member::Has(operation) => table
+            .book()
+            .operations()
+            .get(usize::from(operation))
+            .is_some(),
+        Member::Nest(inner) => usize::from(inner) + 1 < table.groups().len(),
     }
 }
 
 // HAS, NEST: one more member of the group begun last.
 fn add_member(table: &mut Table, member: Member) -> Result<(), Refusal>
     ensures is { told result (policy_of table.new) ≡ judged (book_of table.old.book) (policy_of table.old) (as_member member) }
-    ensures book { table.new.book ≡ table.old.book }
-    ensures places { label_places table.new ≡ label_places table.old }
+    ensures beside { SameBeside table.old table.new }
 {
-    if table.last_clause().is_some() {
+    if !table.clauses().is_empty() {
         return Err(Refusal::OutOfTurn);
     }
-    let group = table.last_group().ok_or(Refusal::OutOfTurn)?;
+    let group = last_group(table)?;
     if group.members().len() >= MEMBERS {
         return Err(Refusal::OverCount);
     }
@@ -83,8 +109,12 @@ fn is_target(table: &Table, target: Target) -> bool
     ensures { (label : Name) → not result ≡ undefined (book_of table.now.book).operations (policy_of table.now) (as_target target label) }
 {
     match target {
-        Target::Operation(operation) => table.book().operation(operation as usize).is_some(),
-        Target::Group(group) => table.group(group as usize).is_some(),
+        Target::Operation(operation) => table
+            .book()
+            .operations()
+            .get(usize::from(operation))
+            .is_some(),
+        Target::Group(group) => table.groups().get(usize::from(group)).is_some(),
     }
 }
 
@@ -97,7 +127,7 @@ fn add_clause(table: &mut Table, target: Target, label: Placed) -> Result<(), Re
     if table.is_unfinished() {
         return Err(Refusal::OutOfTurn);
     }
-    if table.clause_count() >= CLAUSES {
+    if table.clauses().len() >= CLAUSES {
         return Err(Refusal::OverCount);
     }
     if !label.name.is_proper() {
@@ -116,17 +146,13 @@ fn add_clause(table: &mut Table, target: Target, label: Placed) -> Result<(), Re
 // WHEN: one more condition of the clause begun last.
 fn add_when(table: &mut Table, number: u8, left: RawTerm, right: RawTerm) -> Result<(), Refusal>
     ensures is { told result (policy_of table.new) ≡ judged (book_of table.old.book) (policy_of table.old) (WHEN number left right) }
-    ensures book { table.new.book ≡ table.old.book }
-    ensures places { label_places table.new ≡ label_places table.old }
+    ensures beside { SameBeside table.old table.new }
 {
-    let clause = table.last_clause().ok_or(Refusal::OutOfTurn)?;
-    if clause.action().is_some() {
-        return Err(Refusal::OutOfTurn);
-    }
+    let clause = open_clause(table)?;
     if clause.whens().len() >= WHENS {
         return Err(Refusal::OverCount);
     }
-    let comparison = comparison_of(number).ok_or(Refusal::Outside)?;
+    let comparison = Comparison::try_from(number)?;
     if !left.is_known() || !right.is_known() {
         return Err(Refusal::Outside);
     }
@@ -146,12 +172,9 @@ fn add_when(table: &mut Table, number: u8, left: RawTerm, right: RawTerm) -> Res
 // VIOLATE: ends the clause begun last with a violation.
 fn add_violate(table: &mut Table) -> Result<(), Refusal>
     ensures is { told result (policy_of table.new) ≡ judged (book_of table.old.book) (policy_of table.old) VIOLATE }
-    ensures book { table.new.book ≡ table.old.book }
-    ensures places { label_places table.new ≡ label_places table.old }
+    ensures beside { SameBeside table.old table.new }
 {
-    if !table.is_unfinished() {
-        return Err(Refusal::OutOfTurn);
-    }
+    open_clause(table)?;
     table.set_action(Action::Violate);
     Ok(())
 }
@@ -159,17 +182,13 @@ fn add_violate(table: &mut Table) -> Result<(), Refusal>
 // SET, ADD, TAKE: ends the clause begun last with a write of a cell.
 fn add_write(table: &mut Table, write: Write, cell: u8, value: RawTerm) -> Result<(), Refusal>
     ensures is { told result (policy_of table.new) ≡ judged (book_of table.old.book) (policy_of table.old) (WRITE write cell value) }
-    ensures book { table.new.book ≡ table.old.book }
-    ensures places { label_places table.new ≡ label_places table.old }
+    ensures beside { SameBeside table.old table.new }
 {
-    let clause = table.last_clause().ok_or(Refusal::OutOfTurn)?;
-    if clause.action().is_some() {
-        return Err(Refusal::OutOfTurn);
-    }
+    let clause = open_clause(table)?;
     if !value.is_known() {
         return Err(Refusal::Outside);
     }
-    if cell as usize >= table.cells().len() {
+    if usize::from(cell) >= table.cells().len() {
         return Err(Refusal::Undefined);
     }
     let term = value.term(table).ok_or(Refusal::Undefined)?;

@@ -1,23 +1,10 @@
-// The comparisons and terms that operands stand for.
+// The terms that operands stand for.
 ghost use Rattle.policy.specs.Meaning.{policy_of};
-ghost use Rattle.policy_file.specs.Terms.{comparison_of, is_mark, known, term_of};
+ghost use Rattle.policy_file.specs.Terms.{is_mark, known, term_of};
 ghost use Rattle.std.specs.Prelude.{◌≡◌};
 
 use crate::commands::RawTerm;
-use policy::table::{Comparison, Table, Term};
-
-// The comparison that a number stands for.
-pub(crate) fn comparison_of(number: u8) -> Option<Comparison>
-    ensures { result ≡ comparison_of number }
-{
-    match number {
-        0 => Some(Comparison::Equal),
-        1 => Some(Comparison::Unequal),
-        2 => Some(Comparison::Less),
-        3 => Some(Comparison::AtMost),
-        _ => None,
-    }
-}
+use policy::table::{Table, Term};
 
 // Whether the number is a mark.
 fn is_mark(number: u32) -> bool
