@@ -1,3 +1,4 @@
 mod Halves
 pub mod Sets
 pub mod Lending
+pub mod Slices

@@ -113,25 +113,11 @@ impl Book {
         }
     }
 
-    // Whether an operation has that name.
-    pub fn has_operation(&self, name: &Name) -> bool
-        ensures { result ≡ named (map op_name (book_of self.now).operations) name.now.letters }
-    {
-        find(self.operations.held(), name).is_some()
-    }
-
     // The number of the call that has that name.
     pub fn find_call(&self, name: &Name) -> Option<usize>
         ensures { result ≡ first_named (map cl_name (book_of self.now).calls) name.now.letters }
     {
         find(self.calls.held(), name)
-    }
-
-    // Whether a call has that name.
-    pub fn has_call(&self, name: &Name) -> bool
-        ensures { result ≡ named (map cl_name (book_of self.now).calls) name.now.letters }
-    {
-        self.find_call(name).is_some()
     }
 
     // One more operation, where there is room.

@@ -8,5 +8,4 @@ mod Names
 pub mod Places
 pub mod Runs
 mod Size
-pub mod Slices
 mod Steps

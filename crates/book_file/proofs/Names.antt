@@ -4,7 +4,7 @@ use Rattle.book.specs.Books.{op_name, cl_name}
 use Rattle.book.specs.Meaning.{op_of, cl_of}
 use Rattle.book.specs.declared.table.Call.{Call}
 use Rattle.book.specs.declared.table.Operation.{Operation}
-use Rattle.book_file.proofs.Slices.{slices}
+use Rattle.book.proofs.Slices.{slices}
 use Rattle.std.proofs.lemmas.List.{length-map}
 use Rattle.std.proofs.lemmas.Simd.{map-map}
 

@@ -1,5 +1,7 @@
 // The changes of a table: one more cell, group or clause, and what is added to the group or the
 // clause begun last, which is lent for it.
+#![tactic(auto, using(book::proofs::Slices::slices))]
+
 ghost use Rattle.book.specs.Books.{or_else, full, named};
 ghost use Rattle.policy.specs.Meaning.{gr_of, cs_of, policy_of, cs_place, label_places};
 ghost use Rattle.policy.specs.Policies.{cs_label, unfinished, joining, guarded, acting, with_cell, with_group, with_clause, in_last_gr, in_last_cs};
@@ -103,7 +105,8 @@ impl Table {
     pub fn is_unfinished(&self) -> bool
         ensures { result ≡ unfinished (policy_of self.now) }
     {
-        self.last_clause()
+        self.clauses()
+            .last()
             .is_some_and(|clause| clause.action.is_none())
     }
 

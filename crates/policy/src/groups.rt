@@ -1,5 +1,7 @@
 // A group, and what it covers: the operations that it has, and all that the groups nested in it
 // cover.
+#![tactic(auto, using(book::proofs::Slices::slices))]
+
 ghost use Rattle.policy.specs.Coverage.{applies_to, flags as flags_of, covered as covered_by};
 ghost use Rattle.policy.specs.Meaning.{gr_of, policy_of};
 ghost use Rattle.policy.specs.Policies.{new_gr};
@@ -44,7 +46,7 @@ impl Table {
         ensures complete { Complete (policy_of self.now).groups walk.new.walked walk.new.covers }
         ensures grown { Grown (policy_of self.now).groups number walk.old.covers walk.new.covers }
     {
-        let Some(group) = self.group(number) else {
+        let Some(group) = self.groups().get(number) else {
             return;
         };
         if walk.walked[number] {

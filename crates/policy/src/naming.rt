@@ -38,7 +38,7 @@ fn eight_at(bytes: &[u8], place: u32) -> Result<&[u8], NamingRefusal>
 
 // The eight bytes of a call's name, a part of the book's file, or of a clause's label, a part of the
 // policy's, at the place found in reading.
-#[tactic(auto, using(crate::proofs::Handing::hands_out))]
+#[tactic(auto, using(book::proofs::Slices::slices, crate::proofs::Handing::hands_out))]
 pub fn name_of<'a>(
     table: &Table,
     asked: Asked,
@@ -50,14 +50,13 @@ pub fn name_of<'a>(
 {
     match asked {
         Asked::Call(number) => {
-            let call = table
-                .book()
-                .call(number)
-                .ok_or(NamingRefusal::NoSuchNumber)?;
+            let calls = table.book().calls();
+            let call = calls.get(number).ok_or(NamingRefusal::NoSuchNumber)?;
             eight_at(book, call.place())
         }
         Asked::Clause(number) => {
-            let clause = table.clause(number).ok_or(NamingRefusal::NoSuchNumber)?;
+            let clauses = table.clauses();
+            let clause = clauses.get(number).ok_or(NamingRefusal::NoSuchNumber)?;
             eight_at(policy, clause.place())
         }
     }

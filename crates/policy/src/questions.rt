@@ -1,4 +1,6 @@
 // A full table, and what may be asked of it.
+#![tactic(auto, using(book::proofs::Slices::slices))]
+
 ghost use Rattle.book.specs.Books.{empty_book, marks_at, filled, has as has_mark};
 ghost use Rattle.book.specs.Meaning.{book_of, operation_places, call_places};
 ghost use Rattle.policy.specs.Meaning.{gr_of, cs_of, policy_of, table_of, cs_place, label_places};
@@ -74,55 +76,12 @@ impl Table {
         self.groups.held()
     }
 
-    pub fn group_count(&self) -> usize
-        ensures { result ≡ length (policy_of self.now).groups }
-    {
-        self.groups.len()
-    }
-
-    // The group of that number.
-    pub fn group(&self, number: usize) -> Option<&Group>
-        ensures { option_map gr_of (option_map (λ x. x.now) result) ≡ slice_get (policy_of self.now).groups number }
-    {
-        self.groups.get(number)
-    }
-
-    // The group begun last.
-    pub fn last_group(&self) -> Option<&Group>
-        ensures is { option_map gr_of (option_map (λ x. x.now) result) ≡ last_of (policy_of self.now).groups }
-        ensures some { is_some result ≡ filled (policy_of self.now).groups }
-    {
-        self.groups.last()
-    }
-
-    pub fn clause_count(&self) -> usize
-        ensures { result ≡ length (policy_of self.now).clauses }
-    {
-        self.clauses.len()
-    }
-
     // The clauses, in the order of the file.
     pub fn clauses(&self) -> &[Clause]
         ensures is { map cs_of result.now ≡ (policy_of self.now).clauses }
         ensures places { map cs_place result.now ≡ label_places self.now }
     {
         self.clauses.held()
-    }
-
-    // The clause of that number.
-    pub(crate) fn clause(&self, number: usize) -> Option<&Clause>
-        ensures is { option_map cs_of (option_map (λ x. x.now) result) ≡ slice_get (policy_of self.now).clauses number }
-        ensures place { option_map cs_place (option_map (λ x. x.now) result) ≡ slice_get (label_places self.now) number }
-    {
-        self.clauses.get(number)
-    }
-
-    // The clause begun last.
-    pub fn last_clause(&self) -> Option<&Clause>
-        ensures is { option_map cs_of (option_map (λ x. x.now) result) ≡ last_of (policy_of self.now).clauses }
-        ensures some { is_some result ≡ filled (policy_of self.now).clauses }
-    {
-        self.clauses.last()
     }
 
     // Whether an operation to which the clause applies lacks the mark, where the term is a field.
@@ -144,7 +103,7 @@ impl Table {
     fn has_mark(&self, number: usize, mark: u8) -> bool
         ensures { result ≡ has_mark (marks_at (book_of self.now.book).operations number) mark }
     {
-        let operation = self.book.operation(number);
+        let operation = self.book.operations().get(number);
         operation.is_some_and(|operation| has(operation.marks(), mark))
     }
 }

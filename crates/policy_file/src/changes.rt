@@ -1,5 +1,5 @@
 // What each command does to a table: the tests in the order of their numbers, and then the change.
-#![tactic(auto, using(book_file::proofs::Slices::slices))]
+#![tactic(auto, using(book::proofs::Slices::slices))]
 
 ghost use Rattle.std.specs.Prelude.{◌≡◌, not, [], ◌∷◌, ◌++◌, ◌+◌, true, false, Some, None, OnOk};
 ghost use Rattle.book.specs.Meaning.{book_of};
