@@ -5,14 +5,14 @@ ghost use Rattle.std.specs.Prelude.{◌≡◌, Some};
 use std::fmt;
 
 // Whether a run takes script calls, or has been stopped by a violation.
-#[derive(Clone, Copy)]
+#[derive(Clone, Copy, Debug, PartialEq, Eq)]
 pub enum Mode {
     Open,
     Stopped,
 }
 
 // A step stands before the act of its call, or after it.
-#[derive(Clone, Copy)]
+#[derive(Clone, Copy, Debug, PartialEq, Eq)]
 pub enum Phase {
     Before,
     After,
@@ -20,7 +20,7 @@ pub enum Phase {
 
 // Where a violation came: the step's phase, its place from 0 among the call's steps of that phase,
 // its operation, and the clause's number in the policy.
-#[derive(Clone, Copy)]
+#[derive(Clone, Copy, Debug, PartialEq, Eq)]
 pub struct Violation {
     pub phase: Phase,
     pub place: usize,
@@ -28,18 +28,18 @@ pub struct Violation {
     pub clause: usize,
 }
 
-// Why a request is refused.
-#[derive(Clone, Copy)]
+// Why a request is refused, each with its number.
+#[derive(Clone, Copy, Debug, PartialEq, Eq)]
 pub enum Refusal {
-    Stopped,
-    NoSuchCall,
-    WrongCount,
-    NoSuchPlot,
-    NoSuchCell,
+    Stopped = 20,
+    NoSuchCall = 21,
+    WrongCount = 22,
+    NoSuchPlot = 23,
+    NoSuchCell = 24,
 }
 
 // A script call by its number, with its values, or a question about a cell.
-#[derive(Clone, Copy)]
+#[derive(Clone, Copy, Debug, PartialEq, Eq)]
 pub enum Request<'a> {
     Call(u32, &'a [u32]),
     Cell(u32),
@@ -48,7 +48,7 @@ pub enum Request<'a> {
 // What a request comes to: the call is done, with the register's answer; it is denied before the
 // act; it has stopped the run after the act, whose answer that is; it is refused; or the cell's
 // value, where the table keeps the cell.
-#[derive(Clone, Copy)]
+#[derive(Clone, Copy, Debug, PartialEq, Eq)]
 pub enum Answer {
     Done(u32),
     Denied(Violation),
@@ -62,23 +62,19 @@ impl Refusal {
     pub fn number(self) -> u8
         ensures { result ≡ number_of self }
     {
-        match self {
-            Refusal::Stopped => 20,
-            Refusal::NoSuchCall => 21,
-            Refusal::WrongCount => 22,
-            Refusal::NoSuchPlot => 23,
-            Refusal::NoSuchCell => 24,
-        }
+        self as u8
     }
 }
 
-// The word for a phase.
-fn word(phase: Phase) -> &'static str
-    ensures { result.now ≡ word_of phase }
-{
-    match phase {
-        Phase::Before => "before",
-        Phase::After => "after",
+// A phase is shown by its word.
+impl fmt::Display for Phase {
+    ghost output = { λ p. Some (word_of p) };
+
+    fn fmt<W: fmt::Write>(&self, f: &mut fmt::Formatter<W>) -> fmt::Result {
+        match *self {
+            Phase::Before => write!(f, "before"),
+            Phase::After => write!(f, "after"),
+        }
     }
 }
 
@@ -87,11 +83,13 @@ impl fmt::Display for Violation {
     ghost output = { λ v. Some (place_shown v) };
 
     fn fmt<W: fmt::Write>(&self, f: &mut fmt::Formatter<W>) -> fmt::Result {
-        let word = word(self.phase);
-        let place = self.place;
-        let operation = self.operation;
-        let clause = self.clause;
-        write!(f, "{word} {place} operation {operation} clause {clause}")
+        let Violation {
+            phase,
+            place,
+            operation,
+            clause,
+        } = *self;
+        write!(f, "{phase} {place} operation {operation} clause {clause}")
     }
 }
 
