@@ -1,30 +1,24 @@
--- The value under a mark, field after field.
-use Rattle.std.proofs.Common.{◌≡◌, ℕ, ◌+◌, ◌<◌, ◌≤◌, Bool, cond, eqb, List, [], ◌∷◌, length, get_or, drop, refl, ap, ◌∙◌}
+-- The value under a mark, as the first of the pairs of field and value that has the mark.
+use Rattle.std.proofs.Common.{◌≡◌, ℕ, Bool, true, false, cond, eqb, List, [], ◌∷◌, Bor, MatchOption, Option, Some, None, unwrap_or, refl}
 use Rattle.run.specs.Steps.{value_under}
-use Rattle.std.proofs.lemmas.List.{at_drop_more, at_drop_all}
-use Rattle.std.proofs.lemmas.Bool.{eq-eqb, ne_eqb}
+use Rattle.std.specs.List.{find, zip}
+use Rattle.std.specs.Option.{option_map}
 
-module _ (fs vs : List ℕ) (m i : ℕ) where
-  -- no value is left
-  pub no_value : length vs ≤ i → value_under (drop i fs) (drop i vs) m ≡ 0
-  no_value l = at_drop_all (λ (ws : List ℕ). value_under (drop i fs) ws m) vs i l ∙ none (drop i fs)
-    where
-      none : (gs : List ℕ) → value_under gs [] m ≡ 0
-      none [] = refl
-      none (g ∷ gs) = refl
+-- the value of a pair, or 0 where there is none
+abbrev pub value_in : Option (ℕ × ℕ) → ℕ
+value_in o = unwrap_or (option_map (λ (p : ℕ × ℕ). p.1) o) 0
 
-  -- no field is left
-  pub no_field : length fs ≤ i → value_under (drop i fs) (drop i vs) m ≡ 0
-  no_field l = at_drop_all (λ (gs : List ℕ). value_under gs (drop i vs) m) fs i l
+-- the value is that of the first pair
+pub value_found : (fs vs : List ℕ) (m : ℕ) → value_in (find (λ (p : ℕ × ℕ). eqb p.0 m) (zip fs vs)) ≡ value_under fs vs m
+value_found [] vs m = refl
+value_found (f ∷ fs) [] m = refl
+value_found (f ∷ fs) (v ∷ vs) m = at (eqb f m) (value_found fs vs m)
+  where
+    at : (b : Bool) → value_in (find (λ (p : ℕ × ℕ). eqb p.0 m) (zip fs vs)) ≡ value_under fs vs m → value_in (cond b (Some (f, v)) (find (λ (p : ℕ × ℕ). eqb p.0 m) (zip fs vs))) ≡ cond b v (value_under fs vs m)
+    at true e = refl
+    at false e = e
 
-  module _ (h : i < length fs) (k : i < length vs) where
-    here : value_under (drop i fs) (drop i vs) m ≡ cond (eqb (get_or fs i 0) m) (get_or vs i 0) (value_under (drop (i + 1) fs) (drop (i + 1) vs) m)
-    here = at_drop_more (λ (gs : List ℕ). value_under gs (drop i vs) m) fs i 0 h ∙ at_drop_more (λ (ws : List ℕ). value_under (get_or fs i 0 ∷ drop (i + 1) fs) ws m) vs i 0 k
-
-    -- the field has the mark
-    pub field_found : get_or fs i 0 ≡ m → value_under (drop i fs) (drop i vs) m ≡ get_or vs i 0
-    field_found e = here ∙ ap (λ (b : Bool). cond b (get_or vs i 0) (value_under (drop (i + 1) fs) (drop (i + 1) vs) m)) (eq-eqb (get_or fs i 0) m e)
-
-    -- the field has another mark
-    pub field_passed : (get_or fs i 0 ≡ m → ⊥) → value_under (drop i fs) (drop i vs) m ≡ value_under (drop (i + 1) fs) (drop (i + 1) vs) m
-    field_passed e = here ∙ ap (λ (b : Bool). cond b (get_or vs i 0) (value_under (drop (i + 1) fs) (drop (i + 1) vs) m)) (ne_eqb (get_or fs i 0) m e)
+-- the value that is read of a pair of references
+pub value_read : (o : Option (Bor ℕ × Bor ℕ)) (v : ℕ) → MatchOption o (v ≡ 0) (λ p. v ≡ p.1.now) → v ≡ value_in (option_map (λ (p : Bor ℕ × Bor ℕ). (p.0.now, p.1.now)) o)
+value_read None v e = e
+value_read (Some p) v e = e

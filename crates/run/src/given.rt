@@ -19,15 +19,11 @@ pub struct Given<'a, 'b> {
 fn value_under(fields: &[u8], values: &[u32], mark: u8) -> u32
     ensures { result ≡ value_under fields.now values.now mark }
 {
-    for (place, field) in fields.iter().enumerate() {
-        if place >= values.len() {
-            return 0;
-        }
-        if *field == mark {
-            return values[place];
-        }
-    }
-    0
+    fields
+        .iter()
+        .zip(values)
+        .find(|(field, _)| **field == mark)
+        .map_or(0, |(_, value)| *value)
 }
 
 impl Given<'_, '_> {

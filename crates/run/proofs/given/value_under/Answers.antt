@@ -1,15 +1,18 @@
-use Rattle.run.proofs.Filling.{no_value, no_field, field_found, field_passed}
+use Rattle.run.proofs.Filling.{value_in, value_found, value_read}
 use Rattle.run.proofs.given.value_under.Goals as goal
-use Rattle.std.proofs.Common.{sym, ◌∙◌}
-
-pub returns-then-place-values : goal.returns-then-place-values
-returns-then-place-values c = sym (no_value c.args.fields.now c.args.values.now c.args.mark c.loop-place.place c.if-place-values.true) ∙ c.loop-place.invariant
-
-pub returns-then-field-mark : goal.returns-then-field-mark
-returns-then-field-mark c = sym (field_found c.args.fields.now c.args.values.now c.args.mark c.loop-place.place c.loop-place-test.true c.if-place-values.false c.if-field-mark.true) ∙ c.loop-place.invariant
-
-pub loop-place-preserved : goal.loop-place-preserved
-loop-place-preserved c = sym (field_passed c.args.fields.now c.args.values.now c.args.mark c.loop-place.place c.loop-place-test.true c.if-place-values.false c.if-field-mark.false) ∙ c.loop-place.invariant
+use Rattle.std.proofs.Common.{◌≡◌, ℕ, Bool, eqb, Bor, MatchOption, rules, tests, ap, ◌∙◌}
+use Rattle.std.proofs.lemmas.Iterator.Search.{find_from_yields_List}
+use Rattle.std.proofs.lemmas.Iterator.{YieldsList-from_slice, YieldsList-from_zip}
+use Rattle.std.specs.List.{find, zip}
+use Rattle.std.specs.Option.{option_map}
 
 pub returns : goal.returns
-returns c = sym (no_field c.args.fields.now c.args.values.now c.args.mark c.loop-place.place c.loop-place-test.false) ∙ c.loop-place.invariant
+returns c =
+    let fs = c.args.fields.now in
+    let vs = c.args.values.now in
+    let test : ℕ × ℕ → Bool = λ p. eqb p.0 c.args.mark in
+    let at : Bor ℕ × Bor ℕ → ℕ × ℕ = λ p. (p.0.now, p.1.now) in
+    let pairs = YieldsList-from_zip (YieldsList-from_slice {s = c.zip.result.a} fs cc) (YieldsList-from_slice {s = c.zip.result.b} vs cc) in
+    let found : option_map at c.find.result ≡ find test (zip fs vs) = find_from_yields_List test c.find.new.self _ c.find.result c.find.ensures.ran pairs (λ x b q k. search (rules, tests)) in
+    let read : MatchOption c.find.result (c.map_or.result ≡ 0) (λ p. c.map_or.result ≡ p.1.now) = search rules in
+    value_read c.find.result c.map_or.result read ∙ ap value_in found ∙ value_found fs vs c.args.mark
