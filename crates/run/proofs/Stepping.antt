@@ -1,24 +1,8 @@
--- Conditions and clauses, one after the other.
-use Rattle.std.proofs.Common.{◌≡◌, ℕ, ◌+◌, ◌<◌, ◌≤◌, Bool, true, false, cond, ◌&&◌, List, ◌∷◌, length, get_or, drop, Some, None, sym, ap, ◌∙◌}
+-- The clauses of a step, one after the other.
+use Rattle.std.proofs.Common.{◌≡◌, ℕ, ◌+◌, ◌<◌, ◌≤◌, Bool, true, false, cond, List, ◌∷◌, length, get_or, drop, Some, None, sym, ap, ◌∙◌}
 use Rattle.policy.specs.Policies.{Cs}
-use Rattle.policy.specs.declared.table.When.{When}
-use Rattle.run.specs.Steps.{Gv, Stepped, holds, all_hold, acted, violates, acts, step_from}
+use Rattle.run.specs.Steps.{Gv, Stepped, acted, violates, acts, step_from}
 use Rattle.std.proofs.lemmas.List.{at_drop_more, at_drop_all}
-use Rattle.std.proofs.lemmas.Bool.{and_left}
-
-module _ (g : Gv) (cells : List ℕ) (ws : List When) (i : ℕ) where
-  pub all_hold_true : length ws ≤ i → all_hold g cells (drop i ws) ≡ true
-  all_hold_true l = at_drop_all (all_hold g cells) ws i l
-
-  module _ (d : When) (inside : i < length ws) where
-    here : all_hold g cells (drop i ws) ≡ (holds g cells (get_or ws i d) && all_hold g cells (drop (i + 1) ws))
-    here = at_drop_more (all_hold g cells) ws i d inside
-
-    pub one_fails : holds g cells (get_or ws i d) ≡ false → all_hold g cells (drop i ws) ≡ false
-    one_fails e = here ∙ and_left _ _ e
-
-    pub one_holds : holds g cells (get_or ws i d) ≡ true → all_hold g cells (drop i ws) ≡ all_hold g cells (drop (i + 1) ws)
-    one_holds e = here ∙ ap (λ (b : Bool). b && all_hold g cells (drop (i + 1) ws)) e
 
 module _ (o : ℕ) (g : Gv) (cs : List Cs) (i : ℕ) (cells : List ℕ) where
   pub step_ends : length cs ≤ i → step_from o g i (drop i cs) cells ≡ record { cells = cells; violation = None }

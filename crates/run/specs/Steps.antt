@@ -10,6 +10,7 @@ use Rattle.policy.specs.declared.table.Term.{Term}
 use Rattle.policy.specs.declared.table.When.{When}
 use Rattle.policy.specs.declared.table.Write.TheVariants.{Set, Add, Take}
 use Rattle.policy.specs.declared.table.Write.{Write as Change}
+use Rattle.std.specs.List.{list_all}
 
 -- The values under the marks.
 
@@ -55,8 +56,7 @@ holds g cells w = compared w.comparison (term_value g cells w.left) (term_value 
 
 -- all conditions hold
 abbrev pub all_hold : Gv → List ℕ → List When → Bool
-all_hold g cells [] = true
-all_hold g cells (w ∷ ws) = holds g cells w && all_hold g cells ws
+all_hold g cells ws = list_all (holds g cells) ws
 
 -- a cell's value after a write: SET stores the term, ADD adds it and stays at 2^32 − 1, TAKE subtracts it and stays at 0
 abbrev pub written : Change → ℕ → ℕ → ℕ

@@ -9,17 +9,6 @@ use crate::cells::Cells;
 use crate::given::Given;
 use policy::table::{Action, Clause, Comparison, Table, Term, When, Write};
 
-// The value of a term.
-fn value_of(term: Term, given: &Given, cells: &Cells) -> u32
-    ensures { result ≡ term_value (given_of given.now) (cells_of cells.now) term }
-{
-    match term {
-        Term::Number(number) => number,
-        Term::Field(mark) => given.fetch(mark),
-        Term::Cell(number) => cells.value(number as usize),
-    }
-}
-
 // Two values compared.
 fn compare(comparison: Comparison, left: u32, right: u32) -> bool
     ensures { result ≡ compared comparison left right }
@@ -30,34 +19,6 @@ fn compare(comparison: Comparison, left: u32, right: u32) -> bool
         Comparison::Less => left < right,
         Comparison::AtMost => left <= right,
     }
-}
-
-// Whether a condition holds.
-fn holds(when: When, given: &Given, cells: &Cells) -> bool
-    ensures { result ≡ holds_at (given_of given.now) (cells_of cells.now) when }
-{
-    let left = value_of(when.left, given, cells);
-    let right = value_of(when.right, given, cells);
-    compare(when.comparison, left, right)
-}
-
-// Whether all conditions of a clause hold.
-fn all_hold(clause: &Clause, given: &Given, cells: &Cells) -> bool
-    ensures { result ≡ all_hold (given_of given.now) (cells_of cells.now) (cs_of clause.now).whens }
-{
-    for when in clause.whens() {
-        if !holds(*when, given, cells) {
-            return false;
-        }
-    }
-    true
-}
-
-// Whether the clause acts in a step of that operation.
-fn acts(clause: &Clause, operation: u8, given: &Given, cells: &Cells) -> bool
-    ensures { result ≡ acts_at operation (given_of given.now) (cells_of cells.now) (cs_of clause.now) }
-{
-    clause.applies_to(operation as usize) && all_hold(clause, given, cells)
 }
 
 // A cell's value after a write by that value.
@@ -71,27 +32,68 @@ fn write(change: Write, old: u32, by: u32) -> u32
     }
 }
 
-// The cells after an action.
-fn act(action: Option<Action>, given: &Given, cells: &Cells) -> Cells
-    ensures { cells_of result ≡ acted (given_of given.now) (cells_of cells.now) action }
-{
-    match action {
-        Some(Action::Write(change, cell, term)) => {
-            let number = cell as usize;
-            let by = value_of(term, given, cells);
-            cells.with(number, write(change, cells.value(number), by))
-        }
-        _ => *cells,
-    }
-}
-
 // Whether the action is a violation.
 fn is_violation(action: Option<Action>) -> bool
     ensures { result ≡ violates action }
 {
-    match action {
-        Some(Action::Violate) => true,
-        _ => false,
+    matches!(action, Some(Action::Violate))
+}
+
+// A moment of a step: what fills the marks, and the cells as they then are.
+#[derive(Clone, Copy)]
+struct Moment<'a, 'b, 'c> {
+    given: &'a Given<'b, 'c>,
+    cells: &'a Cells,
+}
+
+impl Moment<'_, '_, '_> {
+    // The value of a term.
+    fn value_of(&self, term: Term) -> u32
+        ensures { result ≡ term_value (given_of self.now.given.now) (cells_of self.now.cells.now) term }
+    {
+        match term {
+            Term::Number(number) => number,
+            Term::Field(mark) => self.given.fetch(mark),
+            Term::Cell(number) => self.cells.value(number as usize),
+        }
+    }
+
+    // Whether a condition holds.
+    fn holds(&self, when: When) -> bool
+        ensures { result ≡ holds_at (given_of self.now.given.now) (cells_of self.now.cells.now) when }
+    {
+        let left = self.value_of(when.left);
+        let right = self.value_of(when.right);
+        compare(when.comparison, left, right)
+    }
+
+    // Whether all conditions of a clause hold.
+    fn all_hold(&self, clause: &Clause) -> bool
+        ensures { result ≡ all_hold (given_of self.now.given.now) (cells_of self.now.cells.now) (cs_of clause.now).whens }
+    {
+        clause.whens().iter().all(|when| self.holds(*when))
+    }
+
+    // Whether the clause acts in a step of that operation.
+    fn acts(&self, clause: &Clause, operation: u8) -> bool
+        ensures { result ≡ acts_at operation (given_of self.now.given.now) (cells_of self.now.cells.now) (cs_of clause.now) }
+    {
+        clause.applies_to(operation as usize) && self.all_hold(clause)
+    }
+
+    // The cells after an action.
+    fn after(&self, action: Option<Action>) -> Cells
+        ensures { cells_of result ≡ acted (given_of self.now.given.now) (cells_of self.now.cells.now) action }
+    {
+        match action {
+            Some(Action::Write(change, cell, term)) => {
+                let number = cell as usize;
+                let by = self.value_of(term);
+                let old = self.cells.value(number);
+                self.cells.with(number, write(change, old, by))
+            }
+            _ => *self.cells,
+        }
     }
 }
 
@@ -100,12 +102,13 @@ pub(crate) fn step(table: &Table, operation: u8, given: &Given, cells: &mut Cell
     ensures { record { cells = cells_of cells.exit.now; violation = result } ≡ step_from operation (given_of given.now) 0 (policy_of table.now).clauses (cells_of cells.entry.now) }
 {
     for (number, clause) in table.clauses().iter().enumerate() {
-        if acts(clause, operation, given, cells) {
+        let moment = Moment { given, cells };
+        if moment.acts(clause, operation) {
             let action = clause.action();
             if is_violation(action) {
                 return Some(number);
             }
-            *cells = act(action, given, cells);
+            *cells = moment.after(action);
         }
     }
     None

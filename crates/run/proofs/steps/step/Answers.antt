@@ -38,7 +38,7 @@ loop-number-preserved c =
     elim c.if-acts.branch [
       | then-acts+else-is_violation w ↦
           let good = ap violates (sym w.action-action.ensures) ∙ sym w.if-is_violation.ensures in
-          ap from w.cells-is ∙ ap on (w.act.ensures ∙ ap (acted g cells) w.action-action.ensures) ∙ sym (step_acts o g cs i cells (cs_of x) inside is (sym w.if-acts.ensures) good) ∙ c.loop-number.invariant
+          ap from w.cells-is ∙ ap on (w.after.ensures ∙ ap (acted g cells) w.action-action.ensures) ∙ sym (step_acts o g cs i cells (cs_of x) inside is (sym w.if-acts.ensures) good) ∙ c.loop-number.invariant
       | else-acts w ↦ ap from w.cells-is ∙ sym (step_skips o g cs i cells (cs_of x) inside is (sym w.if-acts.ensures)) ∙ c.loop-number.invariant
     ]
 
