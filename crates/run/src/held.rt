@@ -74,16 +74,13 @@ impl Checks {
         };
         for (place, number) in befores.iter().enumerate() {
             let operation = *number;
-            match trial.step(&table, operation, given) {
-                None => {}
-                Some(clause) => {
-                    return Err(Violation {
-                        phase: Phase::Before,
-                        place,
-                        operation,
-                        clause,
-                    });
-                }
+            if let Some(clause) = trial.step(&table, operation, given) {
+                return Err(Violation {
+                    phase: Phase::Before,
+                    place,
+                    operation,
+                    clause,
+                });
             }
         }
         trial.keep();
@@ -115,16 +112,13 @@ pub(crate) fn run_afters(
     for (place, after) in afters.iter().enumerate() {
         let operation = after.operation;
         if is_met(after.condition, answer) {
-            match step(table, operation, given, cells) {
-                None => {}
-                Some(clause) => {
-                    return Some(Violation {
-                        phase: Phase::After,
-                        place,
-                        operation,
-                        clause,
-                    });
-                }
+            if let Some(clause) = step(table, operation, given, cells) {
+                return Some(Violation {
+                    phase: Phase::After,
+                    place,
+                    operation,
+                    clause,
+                });
             }
         }
     }

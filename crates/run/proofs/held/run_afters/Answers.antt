@@ -4,7 +4,7 @@ use Rattle.book.specs.declared.table.Condition.TheVariants.{Always}
 use Rattle.policy.specs.Meaning.{policy_of}
 use Rattle.run.proofs.Phases.{afters_end, after_skips, after_goes, after_stops}
 use Rattle.run.proofs.held.run_afters.Goals as goal
-use Rattle.run.proofs.held.run_afters.Goals.{then-is_met+in-None, else-is_met}
+use Rattle.run.proofs.held.run_afters.Goals.{then-is_met+in_default, else-is_met}
 use Rattle.run.specs.Calls.{Phased, afters_from}
 use Rattle.run.specs.Cells.{cells_of}
 use Rattle.run.specs.Given.{given_of}
@@ -25,7 +25,7 @@ loop-place-preserved c =
     let d : After = record { operation = 0; condition = Always } in
     let from : Cells → Phased = λ x. afters_from cs g a (k + 1) (drop (k + 1) ss) (cells_of x) in
     elim c.if-is_met.branch [
-      | then-is_met+in-None w ↦ ap from w.cells-is ∙ sym (after_goes cs g a ss k (cells_of c.loop-place.cells) d c.loop-place-test.true (cells_of w.step.new.cells) (sym w.if-is_met.ensures) w.in-None.ensures) ∙ c.loop-place.invariant
+      | then-is_met+in_default w ↦ ap from w.cells-is ∙ sym (after_goes cs g a ss k (cells_of c.loop-place.cells) d c.loop-place-test.true (cells_of w.step.new.cells) (sym w.if-is_met.ensures) w.in_default.ensures) ∙ c.loop-place.invariant
       | else-is_met w ↦ ap from w.cells-is ∙ sym (after_skips cs g a ss k (cells_of c.loop-place.cells) d c.loop-place-test.true (sym w.if-is_met.ensures)) ∙ c.loop-place.invariant
     ]
 

@@ -27,7 +27,7 @@ returns-in-Some c =
 pub loop-place-preserved : goal.loop-place-preserved
 loop-place-preserved c =
     let v = c.args.self.now in
-    let goes = before_goes (policy_of v.table).clauses (given_of c.args.given.now) c.args.befores.now c.loop-place.place (cells_of c.loop-place.trial.held.now.cells) c.loop-place-test.true (cells_of c.step.new.self.held.now.cells) c.in-None.ensures.cells in
+    let goes = before_goes (policy_of v.table).clauses (given_of c.args.given.now) c.args.befores.now c.loop-place.place (cells_of c.loop-place.trial.held.now.cells) c.loop-place-test.true (cells_of c.step.new.self.held.now.cells) c.in_default.ensures.cells in
     (c.step.ensures.lender ∙ c.loop-place.invariant.0, c.step.ensures.kept ∙ c.loop-place.invariant.1, sym goes ∙ c.loop-place.invariant.2)
 
 pub returns : goal.returns
