@@ -15,7 +15,7 @@ use Rattle.std.specs.List.{slice_get}
 
 -- a run, over a register that means those plots
 abbrev pub state_of : {R : Type 0} → (R → List ℕ) → Run R → St
-state_of plots r = record { table = table_of r.checks.table; mode = r.mode; cells = cells_of r.checks.held.cells; plots = plots r.register }
+state_of plots r = record { table = table_of r.table; mode = r.mode; cells = cells_of r.held.cells; plots = plots r.register }
 
 -- a run as it opens: with the cells' first values
 abbrev pub opened : Tb → List ℕ → St

@@ -40,10 +40,7 @@ impl Cells {
     pub(crate) fn value(&self, number: usize) -> u32
         ensures { result ≡ slice_index (cells_of self.now) number }
     {
-        match self.get(number) {
-            Some(value) => value,
-            None => 0,
-        }
+        self.get(number).unwrap_or(0)
     }
 
     // The cells with that value in the cell of that number, where there is one.

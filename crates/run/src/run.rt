@@ -12,27 +12,25 @@ ghost use Rattle.std.specs.List.{slice_get};
 use crate::answers::{Answer, Mode, Refusal, Request};
 use crate::cells::Cells;
 use crate::given::Given;
-use crate::held::{Checks, Held, run_afters};
+use crate::held::Held;
+use crate::steps::Rules;
 use book::table::{Act, Call};
 use policy::table::Table;
 use register::register::Register;
 
-// What a run owns: the table and the cells, its mode, and the register.
+// What a run owns: the table, its mode, the cells, and the register.
 #[derive(Drop)]
 pub struct Run<R> {
-    pub(crate) checks: Checks,
+    pub(crate) table: Table,
     pub(crate) mode: Mode,
+    pub(crate) held: Held,
     pub(crate) register: R,
 }
 
-// Puts an entry at a plot of the register: what stood there, or none where it refuses.
-fn put_at<R: Register>(register: &mut R, plot: u32, entry: u32) -> Option<u32>
-    ensures is { option_map (λ a. (a, R.Register.meaning register.new)) result ≡ put_into (R.Register.meaning register.old) plot entry }
-    ensures refused { IfNone result (R.Register.meaning register.new ≡ R.Register.meaning register.old) }
-    ensures beside { R.Register.stays register.old register.new }
-{
-    register.put(plot, entry)
-}
+// The fields that an act takes from its call: the plot, and the entry that is put there.
+const PLOT: u8 = 1;
+
+const ENTRY: u8 = 2;
 
 // Goes to the register with a call's act: what it answers, or none where it refuses.
 fn act_on<R: Register>(register: &mut R, act: Option<Act>, given: &Given) -> Option<u32>
@@ -42,8 +40,8 @@ fn act_on<R: Register>(register: &mut R, act: Option<Act>, given: &Given) -> Opt
 {
     match act {
         None => Some(0),
-        Some(Act::Look) => register.look(given.fetch(1)),
-        Some(Act::Put) => put_at(register, given.fetch(1), given.fetch(2)),
+        Some(Act::Look) => register.look(given.fetch(PLOT)),
+        Some(Act::Put) => register.put(given.fetch(PLOT), given.fetch(ENTRY)),
     }
 }
 
@@ -51,51 +49,22 @@ impl<R: Register> Run<R> {
     // A run on that table and that register, with the cells' first values.
     pub fn open(table: &Table, register: R) -> Run<R>
         ensures is { state_of R.Register.meaning result ≡ opened (table_of table.now) (R.Register.meaning register) }
-        ensures table { result.checks.table ≡ table.now }
+        ensures table { result.table ≡ table.now }
         ensures register { result.register ≡ register }
     {
         let cells = Cells::first(table);
         Run {
-            checks: Checks {
-                table: *table,
-                held: Held { cells, kept: cells },
-            },
+            table: *table,
             mode: Mode::Open,
+            held: Held { cells, kept: cells },
             register,
-        }
-    }
-
-    // Runs the AFTERs of a call whose act was answered; a violation stops the run.
-    fn finish(&mut self, call: &Call, values: &[u32], answer: u32) -> Answer
-        ensures is { record { answer = result; run = state_of R.Register.meaning self.new } ≡ by_afters (state_of R.Register.meaning self.old) answer (R.Register.meaning self.old.register) (afters_from (policy_of self.old.checks.table).clauses (given_after (cl_of call.now) values.now answer) answer 0 (cl_of call.now).afters (state_of R.Register.meaning self.old).cells) }
-        ensures table { self.new.checks.table ≡ self.old.checks.table }
-        ensures register { self.new.register ≡ self.old.register }
-    {
-        let given = Given {
-            fields: call.fields(),
-            values,
-            answer: Some(answer),
-        };
-        let checks = &mut self.checks;
-        match run_afters(
-            &checks.table,
-            call.afters(),
-            answer,
-            &given,
-            &mut checks.held.cells,
-        ) {
-            None => Answer::Done(answer),
-            Some(violation) => {
-                self.mode = Mode::Stopped;
-                Answer::Stopped(violation, answer)
-            }
         }
     }
 
     // Makes a call that takes that many values: the BEFOREs, the act, the AFTERs.
     fn make(&mut self, call: &Call, values: &[u32]) -> Answer
-        ensures is { record { answer = result; run = state_of R.Register.meaning self.new } ≡ by_befores (state_of R.Register.meaning self.old) (cl_of call.now) values.now (befores_from (policy_of self.old.checks.table).clauses (given_before (cl_of call.now) values.now) 0 (cl_of call.now).befores (state_of R.Register.meaning self.old).cells) }
-        ensures table { self.new.checks.table ≡ self.old.checks.table }
+        ensures is { record { answer = result; run = state_of R.Register.meaning self.new } ≡ by_befores (state_of R.Register.meaning self.old) (cl_of call.now) values.now (befores_from (policy_of self.old.table).clauses (given_before (cl_of call.now) values.now) 0 (cl_of call.now).befores (state_of R.Register.meaning self.old).cells) }
+        ensures table { self.new.table ≡ self.old.table }
         ensures beside { R.Register.stays self.old.register self.new.register }
     {
         let given = Given {
@@ -103,23 +72,40 @@ impl<R: Register> Run<R> {
             values,
             answer: None,
         };
-        if let Err(violation) = self.checks.run_befores(call.befores(), &given) {
+        let rules = Rules {
+            table: &self.table,
+            given,
+        };
+        if let Err(violation) = self.held.run_befores(&rules, call.befores()) {
             return Answer::Denied(violation);
         }
         let Some(answer) = act_on(&mut self.register, call.act(), &given) else {
-            self.checks.held.cells = self.checks.held.kept;
+            self.held.cells = self.held.kept;
             return Answer::Refused(Refusal::NoSuchPlot);
         };
-        self.finish(call, values, answer)
+        let rules = Rules {
+            table: &self.table,
+            given: Given {
+                answer: Some(answer),
+                ..given
+            },
+        };
+        match self.held.run_afters(&rules, call.afters(), answer) {
+            Ok(()) => Answer::Done(answer),
+            Err(violation) => {
+                self.mode = Mode::Stopped;
+                Answer::Stopped(violation, answer)
+            }
+        }
     }
 
     // A script call of an open run.
     fn call_open(&mut self, number: u32, values: &[u32]) -> Answer
-        ensures is { record { answer = result; run = state_of R.Register.meaning self.new } ≡ at_call (state_of R.Register.meaning self.old) values.now (slice_get (table_of self.old.checks.table).book.calls number) }
-        ensures table { self.new.checks.table ≡ self.old.checks.table }
+        ensures is { record { answer = result; run = state_of R.Register.meaning self.new } ≡ at_call (state_of R.Register.meaning self.old) values.now (slice_get (table_of self.old.table).book.calls number) }
+        ensures table { self.new.table ≡ self.old.table }
         ensures beside { R.Register.stays self.old.register self.new.register }
     {
-        let Some(found) = self.checks.table.book().call(number as usize) else {
+        let Some(found) = self.table.book().call(number as usize) else {
             return Answer::Refused(Refusal::NoSuchCall);
         };
         let call = *found;
@@ -133,16 +119,16 @@ impl<R: Register> Run<R> {
     pub fn cell(&self, number: u32) -> Result<Option<u32>, Refusal>
         ensures { result ≡ cell_of (state_of R.Register.meaning self.now) number }
     {
-        match self.checks.held.cells.get(number as usize) {
-            Some(value) => Ok(Some(value)),
-            None => Err(Refusal::NoSuchCell),
-        }
+        let value = self.held.cells.get(number as usize);
+        Ok(Some(value.ok_or(Refusal::NoSuchCell)?))
     }
 
-    // Answers a request by the run's mode and the request together.
-    fn answer_in_mode(&mut self, request: Request) -> Answer
+    // Answers a request.
+    pub fn answer(&mut self, request: Request) -> Answer
         ensures is { record { answer = result; run = state_of R.Register.meaning self.new } ≡ answer_of (state_of R.Register.meaning self.old) request.entry }
-        ensures table { self.new.checks.table ≡ self.old.checks.table }
+        ensures leaves { Leaves (state_of R.Register.meaning self.old) (record { answer = result; run = state_of R.Register.meaning self.new }) }
+        ensures stopped { Final (state_of R.Register.meaning self.old) request.entry (record { answer = result; run = state_of R.Register.meaning self.new }) }
+        ensures table { self.new.table ≡ self.old.table }
         ensures beside { R.Register.stays self.old.register self.new.register }
     {
         match (self.mode, request) {
@@ -156,27 +142,16 @@ impl<R: Register> Run<R> {
         }
     }
 
-    // Answers a request.
-    pub fn answer(&mut self, request: Request) -> Answer
-        ensures is { record { answer = result; run = state_of R.Register.meaning self.new } ≡ answer_of (state_of R.Register.meaning self.old) request.entry }
-        ensures leaves { Leaves (state_of R.Register.meaning self.old) (record { answer = result; run = state_of R.Register.meaning self.new }) }
-        ensures stopped { Final (state_of R.Register.meaning self.old) request.entry (record { answer = result; run = state_of R.Register.meaning self.new }) }
-        ensures table { self.new.checks.table ≡ self.old.checks.table }
-        ensures beside { R.Register.stays self.old.register self.new.register }
-    {
-        self.answer_in_mode(request)
-    }
-
     // Makes a script call.
     pub fn call(&mut self, number: u32, values: &[u32]) -> Answer
         ensures is { record { answer = result; run = state_of R.Register.meaning self.new } ≡ call_of (state_of R.Register.meaning self.old) number values.now }
         ensures leaves { Leaves (state_of R.Register.meaning self.old) (record { answer = result; run = state_of R.Register.meaning self.new }) }
         ensures reported { Reported (state_of R.Register.meaning self.old) number values.now result }
         ensures marks { ByMarks (state_of R.Register.meaning self.old) number values.now }
-        ensures table { self.new.checks.table ≡ self.old.checks.table }
+        ensures table { self.new.table ≡ self.old.table }
         ensures beside { R.Register.stays self.old.register self.new.register }
     {
-        self.answer_in_mode(Request::Call(number, values))
+        self.answer(Request::Call(number, values))
     }
 
     // Closes the run, and hands the register back.
@@ -184,8 +159,9 @@ impl<R: Register> Run<R> {
         ensures { result ≡ self.register }
     {
         let Run {
-            checks: _,
+            table: _,
             mode: _,
+            held: _,
             register,
         } = self;
         register

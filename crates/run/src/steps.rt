@@ -4,6 +4,7 @@ ghost use Rattle.run.specs.Cells.{cells_of};
 ghost use Rattle.run.specs.Given.{given_of};
 ghost use Rattle.run.specs.Steps.{term_value, compared, holds as holds_at, all_hold, written, acted, acts as acts_at, step_from, violates};
 ghost use Rattle.std.specs.Prelude.{◌≡◌};
+ghost use Rattle.std.specs.Result.{result_err};
 
 use crate::cells::Cells;
 use crate::given::Given;
@@ -97,19 +98,31 @@ impl Moment<'_, '_, '_> {
     }
 }
 
-// Runs a step on the cells, and answers the number of the clause that violates, where one does.
-pub(crate) fn step(table: &Table, operation: u8, given: &Given, cells: &mut Cells) -> Option<usize>
-    ensures { record { cells = cells_of cells.exit.now; violation = result } ≡ step_from operation (given_of given.now) 0 (policy_of table.now).clauses (cells_of cells.entry.now) }
-{
-    for (number, clause) in table.clauses().iter().enumerate() {
-        let moment = Moment { given, cells };
-        if moment.acts(clause, operation) {
-            let action = clause.action();
-            if is_violation(action) {
-                return Some(number);
+// What the steps of a phase go by: the table, and what fills the marks.
+#[derive(Clone, Copy)]
+pub(crate) struct Rules<'a, 'b, 'c> {
+    pub(crate) table: &'a Table,
+    pub(crate) given: Given<'b, 'c>,
+}
+
+impl Rules<'_, '_, '_> {
+    // Runs a step on the cells, up to a clause that violates: its number is the error.
+    pub(crate) fn step(&self, operation: u8, cells: &mut Cells) -> Result<(), usize>
+        ensures { record { cells = cells_of cells.exit.now; violation = result_err result } ≡ step_from operation (given_of self.now.given) 0 (policy_of self.now.table.now).clauses (cells_of cells.entry.now) }
+    {
+        for (number, clause) in self.table.clauses().iter().enumerate() {
+            let moment = Moment {
+                given: &self.given,
+                cells,
+            };
+            if moment.acts(clause, operation) {
+                let action = clause.action();
+                if is_violation(action) {
+                    return Err(number);
+                }
+                *cells = moment.after(action);
             }
-            *cells = moment.after(action);
         }
+        Ok(())
     }
-    None
 }
