@@ -17,6 +17,7 @@ use Rattle.run.specs.declared.answers.Answer.TheVariants.{Refused}
 use Rattle.run.specs.declared.answers.Mode.TheVariants.{Open, Stopped}
 use Rattle.run.specs.declared.answers.Mode.{Mode}
 use Rattle.run.specs.declared.answers.Phase.TheVariants.{Before, After}
+use Rattle.run.specs.declared.answers.Phase.{Phase}
 use Rattle.run.specs.declared.answers.Refusal.TheVariants.{WrongCount}
 use Rattle.run.specs.declared.answers.Violation.{Violation}
 use Rattle.std.specs.List.{slice_get}
@@ -55,10 +56,10 @@ module _ (g h : Gv) (same : Alike g h) where
   plot_same (Some Look) plots = ap (looked_at plots) (same 1)
   plot_same (Some Put) plots = ap (λ (p : ℕ). put_into plots p (fetched g 2)) (same 1) ∙ ap (put_into plots (fetched h 1)) (same 2)
 
-  goes_same : (o : ℕ) (place : ℕ) (s : Stepped) (f k : List ℕ → Phased) → ((cells : List ℕ) → f cells ≡ k cells) → after_step Before place o s f ≡ after_step Before place o s k
-  goes_same o place s f k e = at s.violation
+  goes_same : (phase : Phase) (o place : ℕ) (s : Stepped) (f k : List ℕ → Phased) → ((cells : List ℕ) → f cells ≡ k cells) → after_step phase place o s f ≡ after_step phase place o s k
+  goes_same phase o place s f k e = at s.violation
     where
-      at : (v : Option ℕ) → after_step Before place o (record { cells = s.cells; violation = v }) f ≡ after_step Before place o (record { cells = s.cells; violation = v }) k
+      at : (v : Option ℕ) → after_step phase place o (record { cells = s.cells; violation = v }) f ≡ after_step phase place o (record { cells = s.cells; violation = v }) k
       at None = e s.cells
       at (Some i) = refl
 
@@ -66,19 +67,12 @@ module _ (g h : Gv) (same : Alike g h) where
   befores_same cs place [] cells = refl
   befores_same cs place (o ∷ os) cells =
       ap (λ (s : Stepped). after_step Before place o s (befores_from cs g (place + 1) os)) (steps o 0 cs cells)
-      ∙ goes_same o place (step_from o h 0 cs cells) (befores_from cs g (place + 1) os) (befores_from cs h (place + 1) os) (befores_same cs (place + 1) os)
-
-  after_same : (o : ℕ) (place : ℕ) (s : Stepped) (f k : List ℕ → Phased) → ((cells : List ℕ) → f cells ≡ k cells) → after_step After place o s f ≡ after_step After place o s k
-  after_same o place s f k e = at s.violation
-    where
-      at : (v : Option ℕ) → after_step After place o (record { cells = s.cells; violation = v }) f ≡ after_step After place o (record { cells = s.cells; violation = v }) k
-      at None = e s.cells
-      at (Some i) = refl
+      ∙ goes_same Before o place (step_from o h 0 cs cells) (befores_from cs g (place + 1) os) (befores_from cs h (place + 1) os) (befores_same cs (place + 1) os)
 
   pub afters_same : (cs : List Cs) (a place : ℕ) (ss : List Later) (cells : List ℕ) → afters_from cs g a place ss cells ≡ afters_from cs h a place ss cells
   afters_same cs a place [] cells = refl
   afters_same cs a place (s ∷ ss) cells =
-      ap (λ (x : Phased). cond (met_by s.condition a) x (afters_from cs g a (place + 1) ss cells)) (ap (λ (x : Stepped). after_step After place s.operation x (afters_from cs g a (place + 1) ss)) (steps s.operation 0 cs cells) ∙ after_same s.operation place (step_from s.operation h 0 cs cells) (afters_from cs g a (place + 1) ss) (afters_from cs h a (place + 1) ss) (afters_same cs a (place + 1) ss))
+      ap (λ (x : Phased). cond (met_by s.condition a) x (afters_from cs g a (place + 1) ss cells)) (ap (λ (x : Stepped). after_step After place s.operation x (afters_from cs g a (place + 1) ss)) (steps s.operation 0 cs cells) ∙ goes_same After s.operation place (step_from s.operation h 0 cs cells) (afters_from cs g a (place + 1) ss) (afters_from cs h a (place + 1) ss) (afters_same cs a (place + 1) ss))
       ∙ ap (cond (met_by s.condition a) (after_step After place s.operation (step_from s.operation h 0 cs cells) (afters_from cs h a (place + 1) ss))) (afters_same cs a (place + 1) ss cells)
 
 module _ (s : St) (c : Cl) (vs ws : List ℕ) (values : (m : ℕ) → value_under c.fields vs m ≡ value_under c.fields ws m) where
