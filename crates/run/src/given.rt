@@ -15,25 +15,25 @@ pub struct Given<'a, 'b> {
     pub(crate) answer: Option<u32>,
 }
 
-// The value of the field of that mark, or 0 where there is none.
-fn value_under(fields: &[u8], values: &[u32], mark: u8) -> u32
-    ensures { result ≡ value_under fields.now values.now mark }
-{
-    fields
-        .iter()
-        .zip(values)
-        .find(|(field, _)| **field == mark)
-        .map_or(0, |(_, value)| *value)
-}
-
 impl Given<'_, '_> {
+    // The value of the field of that mark, or 0 where there is none.
+    fn value_under(&self, mark: u8) -> u32
+        ensures { result ≡ value_under self.now.fields.now self.now.values.now mark }
+    {
+        self.fields
+            .iter()
+            .zip(self.values)
+            .find(|(field, _)| **field == mark)
+            .map_or(0, |(_, value)| *value)
+    }
+
     // What fills the mark.
     pub(crate) fn fetch(&self, mark: u8) -> u32
         ensures { result ≡ fetched (given_of self.now) mark }
     {
         match self.answer {
             Some(answer) if mark == ANSWER => answer,
-            _ => value_under(self.fields, self.values, mark),
+            _ => self.value_under(mark),
         }
     }
 }

@@ -1,5 +1,5 @@
 use Rattle.run.proofs.Filling.{value_in, value_found, value_read}
-use Rattle.run.proofs.given.value_under.Goals as goal
+use Rattle.run.proofs.given.Given.value_under.Goals as goal
 use Rattle.std.proofs.Common.{◌≡◌, ℕ, Bool, eqb, Bor, MatchOption, rules, tests, ap, ◌∙◌}
 use Rattle.std.proofs.lemmas.Iterator.Search.{find_from_yields_List}
 use Rattle.std.proofs.lemmas.Iterator.{YieldsList-from_slice, YieldsList-from_zip}
@@ -8,8 +8,8 @@ use Rattle.std.specs.Option.{option_map}
 
 pub returns : goal.returns
 returns c =
-    let fs = c.args.fields.now in
-    let vs = c.args.values.now in
+    let fs = c.args.self.now.fields.now in
+    let vs = c.args.self.now.values.now in
     let test : ℕ × ℕ → Bool = λ p. eqb p.0 c.args.mark in
     let at : Bor ℕ × Bor ℕ → ℕ × ℕ = λ p. (p.0.now, p.1.now) in
     let pairs = YieldsList-from_zip (YieldsList-from_slice {s = c.zip.result.a} fs cc) (YieldsList-from_slice {s = c.zip.result.b} vs cc) in
