@@ -64,6 +64,8 @@ fn is_met(condition: Condition, answer: u32) -> bool
     }
 }
 
+// The phases stay two loops: a guard is lent the cells of the one, and each step of the other has a
+// condition, so that one loop for both would switch on the phase.
 impl Held {
     // Runs the BEFOREs; a violation puts every cell back to what it held.
     pub(crate) fn run_befores(&mut self, rules: &Rules, befores: &[u8]) -> Result<(), Violation>

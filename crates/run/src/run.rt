@@ -19,6 +19,7 @@ use policy::table::Table;
 use register::register::Register;
 
 // What a run owns: the table, its mode, the cells, and the register.
+// No model: its view would hold the register itself, of which callers say what stays beside plots.
 #[derive(Drop)]
 pub struct Run<R> {
     pub(crate) table: Table,
@@ -108,6 +109,7 @@ impl<R: Register> Run<R> {
         let Some(found) = self.table.book().call(number as usize) else {
             return Answer::Refused(Refusal::NoSuchCall);
         };
+        // A copy, since the call is made on the run that lends it.
         let call = *found;
         if values.len() != call.fields().len() {
             return Answer::Refused(Refusal::WrongCount);

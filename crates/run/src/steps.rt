@@ -110,6 +110,7 @@ impl Rules<'_, '_, '_> {
     pub(crate) fn step(&self, operation: u8, cells: &mut Cells) -> Result<(), usize>
         ensures { record { cells = cells_of cells.exit.now; violation = result_err result } ≡ step_from operation (given_of self.now.given) 0 (policy_of self.now.table.now).clauses (cells_of cells.entry.now) }
     {
+        // A loop and no chain: nothing would be known of cells that a closure changes.
         for (number, clause) in self.table.clauses().iter().enumerate() {
             let moment = Moment {
                 given: &self.given,
