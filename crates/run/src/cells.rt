@@ -2,15 +2,15 @@
 ghost use Rattle.policy.specs.Meaning.{policy_of};
 ghost use Rattle.run.specs.Cells.{cells_of};
 ghost use Rattle.std.specs.List.{slice_get};
-ghost use Rattle.std.specs.Prelude.{◌≡◌, length, slice_index, slice_set};
+ghost use Rattle.std.specs.Prelude.{◌≡◌, slice_index, slice_set};
 
 use policy::table::{CELLS, Table};
+use tables::rows::Rows;
 
-// The values of the cells, of which there are `count`.
+// The values of the cells.
 #[derive(Clone, Copy)]
 pub struct Cells {
-    pub(crate) values: [u32; CELLS],
-    pub(crate) count: usize,
+    pub(crate) values: Rows<u32, CELLS>,
 }
 
 impl Cells {
@@ -18,22 +18,16 @@ impl Cells {
     pub(crate) fn first(table: &Table) -> Cells
         ensures { cells_of result ≡ (policy_of table.now).cells }
     {
-        let firsts = table.cells();
-        let count = firsts.len();
-        let mut values = [0; CELLS];
-        values[0..count].copy_from_slice(firsts);
-        Cells { values, count }
+        Cells {
+            values: table.first_values(),
+        }
     }
 
     // The value of the cell of that number, where there is one.
     pub(crate) fn get(&self, number: usize) -> Option<u32>
         ensures { result ≡ slice_get (cells_of self.now) number }
     {
-        if number < self.count && number < CELLS {
-            Some(self.values[number])
-        } else {
-            None
-        }
+        self.values.get(number).copied()
     }
 
     // The value of the cell of that number, or 0 where there is none.
@@ -43,14 +37,10 @@ impl Cells {
         self.get(number).unwrap_or(0)
     }
 
-    // The cells with that value in the cell of that number, where there is one.
-    pub(crate) fn with(self, number: usize, value: u32) -> Cells
-        ensures { cells_of result ≡ slice_set (cells_of self) number value }
+    // Puts a value into the cell of that number, where there is one.
+    pub(crate) fn set(&mut self, number: usize, value: u32)
+        ensures { cells_of self.new ≡ slice_set (cells_of self.old) number value }
     {
-        let mut cells = self;
-        if number < cells.count && number < CELLS {
-            cells.values[number] = value;
-        }
-        cells
+        self.values.set(number, value);
     }
 }

@@ -3,8 +3,7 @@ ghost use Rattle.run.specs.Given.{given_of};
 ghost use Rattle.run.specs.Steps.{value_under, fetched};
 ghost use Rattle.std.specs.Prelude.{◌≡◌};
 
-// The mark that the register's answer fills.
-const ANSWER: u8 = 255;
+use book::marks::ANSWER;
 
 // The marks of the call's fields, the values in their order, and after the act the register's
 // answer.

@@ -19,7 +19,7 @@ use policy::table::Table;
 use register::register::Register;
 
 // What a run owns: the table, its mode, the cells, and the register.
-// No model: its view would hold the register itself, of which callers say what stays beside plots.
+// No model and no invariant: callers name the register, and that a table stays is of two runs.
 #[derive(Drop)]
 pub struct Run<R> {
     pub(crate) table: Table,

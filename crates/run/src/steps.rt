@@ -86,15 +86,13 @@ impl Moment<'_, '_, '_> {
     fn after(&self, action: Option<Action>) -> Cells
         ensures { cells_of result ≡ acted (given_of self.now.given.now) (cells_of self.now.cells.now) action }
     {
-        match action {
-            Some(Action::Write(change, cell, term)) => {
-                let number = cell as usize;
-                let by = self.value_of(term);
-                let old = self.cells.value(number);
-                self.cells.with(number, write(change, old, by))
-            }
-            _ => *self.cells,
+        let mut cells = *self.cells;
+        if let Some(Action::Write(change, cell, term)) = action {
+            let number = cell as usize;
+            let old = cells.value(number);
+            cells.set(number, write(change, old, self.value_of(term)));
         }
+        cells
     }
 }
 
