@@ -33,13 +33,6 @@ fn write(change: Write, old: u32, by: u32) -> u32
     }
 }
 
-// Whether the action is a violation.
-fn is_violation(action: Option<Action>) -> bool
-    ensures { result ≡ violates action }
-{
-    matches!(action, Some(Action::Violate))
-}
-
 // A moment of a step: what fills the marks, and the cells as they then are.
 #[derive(Clone, Copy)]
 struct Moment<'a, 'b, 'c> {
@@ -116,7 +109,7 @@ impl Rules<'_, '_, '_> {
             };
             if moment.acts(clause, operation) {
                 let action = clause.action();
-                if is_violation(action) {
+                if let Some(Action::Violate) = action {
                     return Err(number);
                 }
                 *cells = moment.after(action);
