@@ -17,6 +17,7 @@ use Rattle.run.specs.declared.answers.Mode.{Mode}
 use Rattle.run.specs.declared.answers.Phase.TheVariants.{Before, After}
 use Rattle.run.specs.declared.answers.Phase.{Phase}
 use Rattle.run.specs.declared.answers.Refusal.TheVariants.{Stopped as RunStopped, NoSuchCall, WrongCount, NoSuchPlot}
+use Rattle.run.specs.declared.answers.Refusal.{Refusal}
 use Rattle.run.specs.declared.answers.Violation.{Violation}
 use Rattle.std.specs.List.{slice_get}
 
@@ -113,6 +114,11 @@ by_act s c vs cells (Some x) = by_afters s x.0 x.1 (afters_from s.table.policy.c
 -- after the BEFOREs: denied by a violation, and nothing has changed; else the act
 abbrev pub by_befores : St → Cl → List ℕ → Phased → Ended
 by_befores s c vs x = elim x.violation [ None ↦ by_act s c vs x.cells (acted_on c.act (given_before c vs) s.plots) | Some v ↦ record { answer = Denied v; run = s } ]
+
+-- the call where there is one that takes as many values, or why there is none
+abbrev pub call_for : List ℕ → Option Cl → Result Cl Refusal
+call_for vs None = Err NoSuchCall
+call_for vs (Some c) = cond (length vs == length c.fields) (Ok c) (Err WrongCount)
 
 -- a call that there is: refused where the count of values is not the count of fields
 abbrev pub of_call : St → List ℕ → Cl → Ended

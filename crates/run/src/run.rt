@@ -1,11 +1,11 @@
 // A run: it is opened on a table and a register, answers requests, and hands the register back.
 ghost use Rattle.book.specs.Meaning.{cl_of};
 ghost use Rattle.policy.specs.Meaning.{table_of, policy_of};
-ghost use Rattle.run.specs.Calls.{acted_on, put_into, given_before, given_after, befores_from, afters_from, by_afters, by_befores, at_call, call_of};
+ghost use Rattle.run.specs.Calls.{acted_on, put_into, given_before, given_after, befores_from, afters_from, by_afters, by_befores, call_for, call_of};
 ghost use Rattle.run.specs.Given.{given_of};
 ghost use Rattle.run.specs.Laws.{Leaves, Final, Reported, ByMarks};
 ghost use Rattle.run.specs.Runs.{state_of, opened, cell_of, answer_of};
-ghost use Rattle.std.specs.Prelude.{◌≡◌, IfNone};
+ghost use Rattle.std.specs.Prelude.{◌≡◌, Ok, Err, IfNone, MatchResult};
 ghost use Rattle.std.specs.Option.{option_map};
 ghost use Rattle.std.specs.List.{slice_get};
 
@@ -100,21 +100,16 @@ impl<R: Register> Run<R> {
         }
     }
 
-    // A script call of an open run.
-    fn call_open(&mut self, number: u32, values: &[u32]) -> Answer
-        ensures is { record { answer = result; run = state_of R.Register.meaning self.new } ≡ at_call (state_of R.Register.meaning self.old) values.now (slice_get (table_of self.old.table).book.calls number) }
-        ensures table { self.new.table ≡ self.old.table }
-        ensures beside { R.Register.stays self.old.register self.new.register }
+    // The call of that number, where it takes as many values.
+    fn call_for(&self, number: u32, values: &[u32]) -> Result<Call, Refusal>
+        ensures { let found = call_for values.now (slice_get (table_of self.now.table).book.calls number) in MatchResult result (λ c. found ≡ Ok (cl_of c)) (λ e. found ≡ Err e) }
     {
-        let Some(found) = self.table.book().call(number as usize) else {
-            return Answer::Refused(Refusal::NoSuchCall);
-        };
-        // A copy, since the call is made on the run that lends it.
-        let call = *found;
+        let found = self.table.book().call(number as usize);
+        let call = found.ok_or(Refusal::NoSuchCall)?;
         if values.len() != call.fields().len() {
-            return Answer::Refused(Refusal::WrongCount);
+            return Err(Refusal::WrongCount);
         }
-        self.make(&call, values)
+        Ok(*call)
     }
 
     // The value of a cell.
@@ -140,7 +135,10 @@ impl<R: Register> Run<R> {
                 Err(refusal) => Answer::Refused(refusal),
             },
             (Mode::Stopped, Request::Call(_, _)) => Answer::Refused(Refusal::Stopped),
-            (Mode::Open, Request::Call(number, values)) => self.call_open(number, values),
+            (Mode::Open, Request::Call(number, values)) => match self.call_for(number, values) {
+                Ok(call) => self.make(&call, values),
+                Err(refusal) => Answer::Refused(refusal),
+            },
         }
     }
 
@@ -160,12 +158,6 @@ impl<R: Register> Run<R> {
     pub fn close(self) -> R
         ensures { result ≡ self.register }
     {
-        let Run {
-            table: _,
-            mode: _,
-            held: _,
-            register,
-        } = self;
-        register
+        self.register
     }
 }
