@@ -45,13 +45,13 @@ module _ (o : ℕ) (g : Gv) where
   later i c cs start next j e f = record { place = suc f.place; is = let w = f.is in omega arith; clause = f.clause; cells = f.cells; at = f.at; before = e (take f.place cs) ∙ f.before; does = f.does; bad = f.bad }
 
   found : (i : ℕ) (cs : List Cs) (start to : List ℕ) (j : ℕ) → step_from o g i cs start ≡ record { cells = to; violation = Some j } → FoundAt o g i cs start j
-  found i [] start to j e = let z = ap (λ (x : Stepped). x.violation) e in let y : ◌≡◌ {A = ℕ} 0 1 = cc in absurd (omega arith)
+  found i [] start to j e = let z = ap (λ (x : Stepped). x.violation) e in cc
   found i (c ∷ cs) start to j e = at (acts o g start c) (violates c.action) refl refl e (found (i + 1) cs start to j) (found (i + 1) cs (acted g start c.action) to j)
     where
       at : (a v : Bool) → acts o g start c ≡ a → violates c.action ≡ v → cond a (cond v (record { cells = start; violation = Some i }) (step_from o g (i + 1) cs (acted g start c.action))) (step_from o g (i + 1) cs start) ≡ record { cells = to; violation = Some j } → (step_from o g (i + 1) cs start ≡ record { cells = to; violation = Some j } → FoundAt o g (i + 1) cs start j) → (step_from o g (i + 1) cs (acted g start c.action) ≡ record { cells = to; violation = Some j } → FoundAt o g (i + 1) cs (acted g start c.action) j) → FoundAt o g i (c ∷ cs) start j
       at true true p q h skip go = let z = ap (λ (x : Stepped). x.violation) h in let y : i ≡ j = cc in record { place = 0; is = omega arith; clause = c; cells = start; at = refl; before = refl; does = p; bad = q }
-      at true false p q h skip go = later i c cs start (acted g start c.action) j (λ ds. ap (λ (a : Bool). cond a (cond (violates c.action) (record { cells = start; violation = Some i }) (step_from o g (i + 1) ds (acted g start c.action))) (step_from o g (i + 1) ds start)) p ∙ ap (λ (v : Bool). cond v (record { cells = start; violation = Some i }) (step_from o g (i + 1) ds (acted g start c.action))) q) (go h)
-      at false v p q h skip go = later i c cs start start j (λ ds. ap (λ (a : Bool). cond a (cond (violates c.action) (record { cells = start; violation = Some i }) (step_from o g (i + 1) ds (acted g start c.action))) (step_from o g (i + 1) ds start)) p) (skip h)
+      at true false p q h skip go = later i c cs start (acted g start c.action) j (λ ds. cc (p, q)) (go h)
+      at false v p q h skip go = later i c cs start start j (λ ds. cc p) (skip h)
 
   pub violation_is : (cs : List Cs) (start to : List ℕ) (j : ℕ) → step_from o g 0 cs start ≡ record { cells = to; violation = Some j } → Violates cs o g start j
   violation_is cs start to j e =
@@ -82,11 +82,11 @@ record BeforeAt (cs : List Cs) (g : Gv) (k : ℕ) (os : List ℕ) (cells : List 
 
 module _ (cs : List Cs) (g : Gv) where
   before_found : (k : ℕ) (os : List ℕ) (cells to : List ℕ) (v : Violation) → befores_from cs g k os cells ≡ record { cells = to; violation = Some v } → BeforeAt cs g k os cells v
-  before_found k [] cells to v e = let z = ap (λ (x : Phased). x.violation) e in let y : ◌≡◌ {A = ℕ} 0 1 = cc in absurd (omega arith)
+  before_found k [] cells to v e = let z = ap (λ (x : Phased). x.violation) e in cc
   before_found k (o ∷ os) cells to v e = at (step_from o g 0 cs cells) refl e (λ next h. before_found (k + 1) os next to v h)
     where
       go_on : (next : List ℕ) → step_from o g 0 cs cells ≡ record { cells = next; violation = None } → BeforeAt cs g (k + 1) os next v → BeforeAt cs g k (o ∷ os) cells v
-      go_on next s f = record { index = suc f.index; start = f.start; is = let w = f.is in omega arith; phase = f.phase; at = f.at; before = ap (λ (x : Stepped). after_step Before k o x (befores_from cs g (k + 1) (take f.index os))) s ∙ f.before; violates = f.violates }
+      go_on next s f = record { index = suc f.index; start = f.start; is = let w = f.is in omega arith; phase = f.phase; at = f.at; before = cc (s, f.before); violates = f.violates }
 
       at : (x : Stepped) → step_from o g 0 cs cells ≡ x → after_step Before k o x (befores_from cs g (k + 1) os) ≡ record { cells = to; violation = Some v } → ((next : List ℕ) → befores_from cs g (k + 1) os next ≡ record { cells = to; violation = Some v } → BeforeAt cs g (k + 1) os next v) → BeforeAt cs g k (o ∷ os) cells v
       at x s h go = by x.violation refl h
@@ -125,7 +125,7 @@ record AfterAt (cs : List Cs) (g : Gv) (a k : ℕ) (ss : List Later) (cells : Li
 
 module _ (cs : List Cs) (g : Gv) (a : ℕ) where
   after_found : (k : ℕ) (ss : List Later) (cells to : List ℕ) (v : Violation) → afters_from cs g a k ss cells ≡ record { cells = to; violation = Some v } → AfterAt cs g a k ss cells v
-  after_found k [] cells to v e = let z = ap (λ (x : Phased). x.violation) e in let y : ◌≡◌ {A = ℕ} 0 1 = cc in absurd (omega arith)
+  after_found k [] cells to v e = let z = ap (λ (x : Phased). x.violation) e in cc
   after_found k (s ∷ ss) cells to v e = at (met_by s.condition a) (step_from s.operation g 0 cs cells) refl refl e (λ next h. after_found (k + 1) ss next to v h)
     where
       go_on : (next : List ℕ) → ((rs : List Later) → afters_from cs g a k (s ∷ rs) cells ≡ afters_from cs g a (k + 1) rs next) → AfterAt cs g a (k + 1) ss next v → AfterAt cs g a k (s ∷ ss) cells v
