@@ -1,6 +1,6 @@
 // The cells of a run while a call is made: what they hold, and what they held when it began.
 ghost use Rattle.policy.specs.Meaning.{policy_of};
-ghost use Rattle.run.specs.Calls.{befores_from, tried_of, met_by, afters_from};
+ghost use Rattle.run.specs.Calls.{after_step, befores_from, tried_of, met_by, afters_from};
 ghost use Rattle.run.specs.Cells.{cells_of};
 ghost use Rattle.run.specs.Given.{given_of};
 ghost use Rattle.run.specs.Steps.{step_from};
@@ -9,7 +9,6 @@ ghost use Rattle.std.specs.Result.{result_err};
 
 use crate::answers::{Phase, Violation};
 use crate::cells::Cells;
-use crate::given::Given;
 use crate::steps::Rules;
 use book::table::{After, Condition};
 
@@ -36,13 +35,13 @@ impl Drop for Trial<'_> {
 }
 
 impl Trial<'_> {
-    // Runs a step on the cells.
-    fn step(&mut self, rules: &Rules, operation: u8) -> Result<(), usize>
-        ensures cells { record { cells = cells_of self.new.held.now.cells; violation = result_err result } ≡ step_from operation (given_of rules.now.given) 0 (policy_of rules.now.table.now).clauses (cells_of self.old.held.now.cells) }
+    // Runs the BEFORE at a place on the cells.
+    fn step(&mut self, rules: &Rules, place: usize, operation: u8) -> Result<(), Violation>
+        ensures cells { record { cells = cells_of self.new.held.now.cells; violation = result_err result } ≡ after_step Phase.Before place operation (step_from operation (given_of rules.now.given) 0 (policy_of rules.now.table.now).clauses (cells_of self.old.held.now.cells)) (λ c. record { cells = c; violation = None }) }
         ensures lender { self.new.held.ghost_name ≡ self.old.held.ghost_name }
         ensures kept { self.new.held.now.kept ≡ self.old.held.now.kept }
     {
-        rules.step(operation, &mut self.held.cells)
+        rules.step(Phase::Before, place, operation, &mut self.held.cells)
     }
 
     // The cells stay as they are.
@@ -64,8 +63,6 @@ fn is_met(condition: Condition, answer: u32) -> bool
     }
 }
 
-// The phases stay two loops: a guard is lent the cells of the one, and each step of the other has a
-// condition, so that one loop for both would switch on the phase.
 impl Held {
     // Runs the BEFOREs; a violation puts every cell back to what it held.
     pub(crate) fn run_befores(&mut self, rules: &Rules, befores: &[u8]) -> Result<(), Violation>
@@ -74,14 +71,8 @@ impl Held {
     {
         self.kept = self.cells;
         let mut trial = Trial { held: self };
-        for (place, number) in befores.iter().enumerate() {
-            let operation = *number;
-            trial.step(rules, operation).map_err(|clause| Violation {
-                phase: Phase::Before,
-                place,
-                operation,
-                clause,
-            })?;
+        for (place, operation) in befores.iter().enumerate() {
+            trial.step(rules, place, *operation)?;
         }
         trial.keep();
         Ok(())
@@ -97,16 +88,8 @@ impl Held {
         ensures { record { cells = cells_of self.new.cells; violation = result_err result } ≡ afters_from (policy_of rules.now.table.now).clauses (given_of rules.now.given) answer 0 afters.now (cells_of self.old.cells) }
     {
         for (place, after) in afters.iter().enumerate() {
-            let operation = after.operation;
             if is_met(after.condition, answer) {
-                rules
-                    .step(operation, &mut self.cells)
-                    .map_err(|clause| Violation {
-                        phase: Phase::After,
-                        place,
-                        operation,
-                        clause,
-                    })?;
+                rules.step(Phase::After, place, after.operation, &mut self.cells)?;
             }
         }
         Ok(())

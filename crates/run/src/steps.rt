@@ -1,11 +1,13 @@
 // A step: the clauses of its operation, in the order of the file.
 ghost use Rattle.policy.specs.Meaning.{cs_of, policy_of};
+ghost use Rattle.run.specs.Calls.{after_step};
 ghost use Rattle.run.specs.Cells.{cells_of};
 ghost use Rattle.run.specs.Given.{given_of};
 ghost use Rattle.run.specs.Steps.{term_value, compared, holds as holds_at, all_hold, written, acted, acts as acts_at, step_from, violates};
 ghost use Rattle.std.specs.Prelude.{◌≡◌};
 ghost use Rattle.std.specs.Result.{result_err};
 
+use crate::answers::{Phase, Violation};
 use crate::cells::Cells;
 use crate::given::Given;
 use policy::table::{Action, Clause, Comparison, Table, Term, When, Write};
@@ -97,9 +99,15 @@ pub(crate) struct Rules<'a, 'b, 'c> {
 }
 
 impl Rules<'_, '_, '_> {
-    // Runs a step on the cells, up to a clause that violates: its number is the error.
-    pub(crate) fn step(&self, operation: u8, cells: &mut Cells) -> Result<(), usize>
-        ensures { record { cells = cells_of cells.exit.now; violation = result_err result } ≡ step_from operation (given_of self.now.given) 0 (policy_of self.now.table.now).clauses (cells_of cells.entry.now) }
+    // Runs the step at a place of its phase on the cells, up to a clause that violates.
+    pub(crate) fn step(
+        &self,
+        phase: Phase,
+        place: usize,
+        operation: u8,
+        cells: &mut Cells,
+    ) -> Result<(), Violation>
+        ensures { record { cells = cells_of cells.exit.now; violation = result_err result } ≡ after_step phase place operation (step_from operation (given_of self.now.given) 0 (policy_of self.now.table.now).clauses (cells_of cells.entry.now)) (λ c. record { cells = c; violation = None }) }
     {
         // A loop and no chain: nothing would be known of cells that a closure changes.
         for (number, clause) in self.table.clauses().iter().enumerate() {
@@ -110,7 +118,12 @@ impl Rules<'_, '_, '_> {
             if moment.acts(clause, operation) {
                 let action = clause.action();
                 if let Some(Action::Violate) = action {
-                    return Err(number);
+                    return Err(Violation {
+                        phase,
+                        place,
+                        operation,
+                        clause: number,
+                    });
                 }
                 *cells = moment.after(action);
             }

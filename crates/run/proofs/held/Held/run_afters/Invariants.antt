@@ -10,4 +10,4 @@ abbrev pub invariant-loop-place : goal.invariant-loop-place
 invariant-loop-place l =
     let cs = (policy_of l.rules.table.now).clauses in
     let g = given_of l.rules.given in
-    afters_from cs g l.answer l.place-counter (drop l.place-counter l.afters) (cells_of l.self.cells) ≡ afters_from cs g l.answer 0 l.afters (cells_of l.initial.self.cells)
+    afters_from cs g l.answer l.place (drop l.place l.afters) (cells_of l.self.cells) ≡ afters_from cs g l.answer 0 l.afters (cells_of l.initial.self.cells)

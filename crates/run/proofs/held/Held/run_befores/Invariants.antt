@@ -12,4 +12,4 @@ invariant-loop-place l =
     let g = given_of l.rules.given in
     (l.trial.held.ghost_name ≡ l.initial.trial.held.ghost_name)
     × (l.trial.held.now.kept ≡ l.initial.trial.held.now.kept)
-    × (befores_from cs g l.place-counter (drop l.place-counter l.befores) (cells_of l.trial.held.now.cells) ≡ befores_from cs g 0 l.befores (cells_of l.initial.trial.held.now.cells))
+    × (befores_from cs g l.place (drop l.place l.befores) (cells_of l.trial.held.now.cells) ≡ befores_from cs g 0 l.befores (cells_of l.initial.trial.held.now.cells))
