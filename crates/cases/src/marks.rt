@@ -4,7 +4,7 @@ use loading::load::load;
 use policy::table::Table;
 use pruning::marking::mark;
 use pruning::marks::Marks;
-use pruning::reasons::count_steps;
+use pruning::reasons::Marking;
 use std::process::Abort;
 use std::test::Fail;
 
@@ -26,7 +26,7 @@ fn check_steps(
         let Some(call) = table.book().call(number) else {
             return Err(Fail::new("no call"));
         };
-        let steps = count_steps(table, marks, call);
+        let steps = Marking { table, marks }.count_steps(call);
         assert_eq!(rt; (steps.kept, steps.all), (kept[number], all[number]));
     }
     Ok(())

@@ -1,29 +1,23 @@
--- How many steps pass, one after the other.
-use Rattle.std.proofs.Common.{◌≡◌, ℕ, ◌+◌, ◌<◌, ◌≤◌, Bool, true, false, List, length, get_or, take, count_by, sym, ap, ◌∙◌, arith}
-use Rattle.book.specs.declared.table.Call.{Call}
-use Rattle.std.proofs.lemmas.List.{take_all}
-use Rattle.std.proofs.lemmas.List.Sums.{count_by_more_yes, count_by_more_no}
-use Rattle.tables.proofs.Long.{rows_long}
-use Rattle.tables.specs.Rows.{rows_of}
+-- How many pass, of some elements and of what others give.
+use Rattle.std.proofs.Common.{◌≡◌, ◌+◌, Bool, true, false, cond, List, [], ◌∷◌, ◌++◌, map, filter, length, count_by, refl, ap, arith}
+use Rattle.std.proofs.lemmas.List.Elements.{filter-append}
+use Rattle.std.proofs.lemmas.List.Sums.{length-filter}
+use Rattle.std.proofs.lemmas.List.{length-append, length-map}
 
-module _ {X : Type 0} (test : X → Bool) (xs : List X) where
-  -- n of the first i pass
-  abbrev pub Counted : ℕ → ℕ → Type 0
-  Counted i n = (n ≤ i) × (n ≡ count_by test (take i xs))
+module _ {X Y : Type 0} (test : X → Bool) (view : Y → X) where
+  abbrev seen : Y → Bool
+  seen y = test (view y)
 
-  module _ (i n : ℕ) (d : X) (within : i < length xs) (so_far : Counted i n) where
-    pub count_yes : test (get_or xs i d) ≡ true → Counted (i + 1) (n + 1)
-    count_yes e = (let l = so_far.0 in omega arith, let s = count_by_more_yes test xs i d within e in let w = so_far.1 in omega arith)
+  filter_map : (ys : List Y) → filter test (map view ys) ≡ map view (filter seen ys)
+  filter_map [] = refl
+  filter_map (y ∷ ys) = at (test (view y)) (filter_map ys)
+    where
+      at : (b : Bool) → filter test (map view ys) ≡ map view (filter seen ys) → cond b (view y ∷ filter test (map view ys)) (filter test (map view ys)) ≡ map view (cond b (y ∷ filter seen ys) (filter seen ys))
+      at true e = ap (λ (l : List X). view y ∷ l) e
+      at false e = e
 
-    pub count_no : test (get_or xs i d) ≡ false → Counted (i + 1) n
-    count_no e = (let l = so_far.0 in omega arith, so_far.1 ∙ sym (count_by_more_no test xs i d within e))
-
-  pub count_all : (i n : ℕ) → length xs ≤ i → Counted i n → n ≡ count_by test xs
-  count_all i n l h = h.1 ∙ ap (count_by test) (take_all i xs l)
-
--- at most 8 steps before an act, and at most 8 after it
-pub few_befores : (c : Call) → length (rows_of c.befores) ≤ 8
-few_befores c = let ok = c.befores.ok in omega (arith, rows_long c.befores, ok.0)
-
-pub few_afters : (c : Call) → length (rows_of c.afters) ≤ 8
-few_afters c = let ok = c.afters.ok in omega (arith, rows_long c.afters, ok.0)
+  pub count_joined : (xs : List X) (ys : List Y) → length (filter test (xs ++ map view ys)) ≡ count_by test xs + count_by seen ys
+  count_joined xs ys =
+      let e = ap length (filter-append test xs (map view ys)) in
+      let f = ap length (filter_map ys) in
+      omega (arith, length-append (filter test xs) (filter test (map view ys)), length-map (filter seen ys) view, length-filter test xs, length-filter seen ys)

@@ -1,10 +1,10 @@
 -- The first clause that passes a test: where it stands, and a search for it from the front.
-use Rattle.std.proofs.Common.{◌≡◌, ℕ, zero, suc, ◌+◌, ◌<◌, ◌≤◌, Bool, true, false, cond, List, [], ◌∷◌, length, get_or, drop, Some, None, sym, refl, ap, ◌∙◌, subst, le_of_suc-le-suc, add-zero, arith}
+use Rattle.std.proofs.Common.{◌≡◌, ℕ, zero, suc, ◌+◌, ◌<◌, Bool, true, false, cond, List, [], ◌∷◌, map, Some, None, Option, sym, refl, ap, ◌∙◌, subst, le_of_suc-le-suc, add-zero, arith}
 use Rattle.policy.specs.Policies.{Cs}
 use Rattle.pruning.specs.Marking.{first_from}
-use Rattle.std.proofs.lemmas.List.{at_drop_more, at_drop_all}
 use Rattle.std.proofs.lemmas.Bool.{both_ways}
-use Rattle.std.specs.List.{slice_get}
+use Rattle.std.proofs.lemmas.Iterator.Adapters.{position_from-zero}
+use Rattle.std.specs.List.{slice_get, position, position_from, enumerate_from}
 
 module _ (test : ℕ → Cs → Bool) where
   -- element j of the list, counted from k on, passes the test
@@ -51,17 +51,15 @@ module _ (test : ℕ → Cs → Bool) where
       at false t h go zero q = both_ways (test k c) t (front k c cs q)
       at false t h go (suc j) q = go h j (back k c cs j q)
 
-  -- The search from the front, over what is left of the list.
+  -- The first position among the elements with their numbers.
 
-  module _ (cs : List Cs) (i : ℕ) (c : Cs) (within : i < length cs) (is : c ≡ get_or cs i c) where
-    here : first_from test i (drop i cs) ≡ cond (test i c) (Some i) (first_from test (i + 1) (drop (i + 1) cs))
-    here = at_drop_more (first_from test i) cs i c within ∙ ap (λ (x : Cs). cond (test i x) (Some i) (first_from test (i + 1) (drop (i + 1) cs))) (sym is)
+  module _ {X : Type 0} (view : X → Cs) where
+    abbrev pub passing : ℕ × X → Bool
+    passing p = test p.0 (view p.1)
 
-    pub first_passes : test i c ≡ false → first_from test i (drop i cs) ≡ first_from test (i + 1) (drop (i + 1) cs)
-    first_passes e = here ∙ ap (λ (b : Bool). cond b (Some i) (first_from test (i + 1) (drop (i + 1) cs))) e
+    position_is : (k : ℕ) (xs : List X) → position_from passing k (enumerate_from k xs) ≡ first_from test k (map view xs)
+    position_is k [] = refl
+    position_is k (x ∷ xs) = ap (cond (test k (view x)) (Some k)) (position_is (k + 1) xs)
 
-    pub first_stops : test i c ≡ true → first_from test i (drop i cs) ≡ Some i
-    first_stops e = here ∙ ap (λ (b : Bool). cond b (Some i) (first_from test (i + 1) (drop (i + 1) cs))) e
-
-  pub first_ends : (cs : List Cs) (i : ℕ) → length cs ≤ i → first_from test i (drop i cs) ≡ None
-  first_ends cs i l = at_drop_all (first_from test i) cs i l
+    pub first_position : (xs : List X) (cs : List Cs) (r : Option ℕ) → map view xs ≡ cs → r ≡ position passing (enumerate_from 0 xs) → r ≡ first_from test 0 cs
+    first_position xs cs r same e = e ∙ position_from-zero passing (enumerate_from 0 xs) ∙ position_is 0 xs ∙ ap (first_from test 0) same

@@ -1,15 +1,13 @@
 -- The cells that are marked after the cells of some terms were.
-use Rattle.std.proofs.Common.{◌≡◌, ℕ, ◌+◌, ◌<◌, ◌≤◌, Bool, true, false, cond, ltb, ◌⊎◌, List, [], ◌∷◌, ◌++◌, length, get_or, drop, set, sym, refl, ap, ◌∙◌, subst, inl, inr, ⊎_elim, arith}
+use Rattle.std.proofs.Common.{◌≡◌, ℕ, ◌<◌, ◌≤◌, Bool, true, false, cond, ltb, ◌⊎◌, List, [], ◌∷◌, ◌++◌, length, drop, take, set, sym, refl, ap, ◌∙◌, subst, inl, inr, ⊎_elim, arith}
 use Rattle.policy.specs.declared.table.Term.TheVariants.{Number, Field, Cell}
 use Rattle.policy.specs.declared.table.Term.{Term}
 use Rattle.policy.proofs.Among.{among_nil, among_here, among_later, among_cons}
 use Rattle.pruning.proofs.Flags.{set-flag, flag_set}
-use Rattle.policy.specs.declared.table.When.{When}
 use Rattle.pruning.specs.Marking.{Marked, noted, noted_all}
-use Rattle.pruning.specs.Rules.{when_terms}
-use Rattle.std.proofs.lemmas.List.{length-set, at_drop_more}
+use Rattle.std.proofs.lemmas.List.{length-set, length-take-le, set-append_left, take-append-drop}
 use Rattle.std.proofs.lemmas.Bool.{ltb-true, lt-ltb}
-use Rattle.std.specs.List.{flat_map, ContainsAt as Among}
+use Rattle.std.specs.List.{ContainsAt as Among}
 
 module _ (n : ℕ) where
   -- d is a cell that stands in one of the terms
@@ -28,6 +26,27 @@ module _ (n : ℕ) where
   pub noted_all_length : (ts : List Term) (cells : List Bool) → length (noted_all n ts cells) ≡ length cells
   noted_all_length [] cells = refl
   noted_all_length (t ∷ ts) cells = noted_all_length ts (noted n t cells) ∙ noted_length t cells
+
+  one_front : (t : Term) (xs ys : List Bool) → length xs ≡ n → noted n t (xs ++ ys) ≡ noted n t xs ++ ys
+  one_front (Number v) xs ys e = refl
+  one_front (Field m) xs ys e = refl
+  one_front (Cell k) xs ys e = at (ltb k n) refl
+    where
+      at : (b : Bool) → ltb k n ≡ b → cond b (set (xs ++ ys) k true) (xs ++ ys) ≡ cond b (set xs k true) xs ++ ys
+      at true q = set-append_left xs ys k true (let l = ltb-true k n q in omega arith)
+      at false q = refl
+
+  front_noted : (ts : List Term) (xs ys : List Bool) → length xs ≡ n → noted_all n ts (xs ++ ys) ≡ noted_all n ts xs ++ ys
+  front_noted [] xs ys e = refl
+  front_noted (t ∷ ts) xs ys e = ap (noted_all n ts) (one_front t xs ys e) ∙ front_noted ts (noted n t xs) ys (noted_length t xs ∙ e)
+
+  -- the cells of the policy are the first n flags
+  pub noted_front : (ts : List Term) (cells front : List Bool) → n ≤ length cells → front ≡ noted_all (length (take n cells)) ts (take n cells) → front ++ drop n cells ≡ noted_all n ts cells
+  noted_front ts cells front l e =
+      let k = length-take-le n cells l in
+      ap (λ (xs : List Bool). xs ++ drop n cells) (e ∙ ap (λ (m : ℕ). noted_all m ts (take n cells)) k)
+      ∙ sym (front_noted ts (take n cells) (drop n cells) k)
+      ∙ ap (noted_all n ts) (take-append-drop n cells)
 
   one_back : (t : Term) (cells : List Bool) (d : ℕ) → Marked (noted n t cells) d → Marked cells d ⊎ ((d < n) × (t ≡ Cell d))
   one_back (Number v) cells d h = inl h
@@ -67,7 +86,3 @@ module _ (n : ℕ) where
   noted_new (t ∷ ts) cells d s h =
       let longer : n ≤ length (noted n t cells) = let e = noted_length t cells in omega arith in
       ⊎_elim (λ e. noted_kept ts (noted n t cells) d longer (one_new t cells d s h.0 e)) (λ a. noted_new ts (noted n t cells) d longer (h.0, a)) (among_cons t ts (Cell d) h.1)
-
-  -- one condition after the other
-  pub when_noted : (ws : List When) (i : ℕ) (d : When) (rest : List Term) (cells : List Bool) → i < length ws → noted_all n (flat_map when_terms (drop i ws) ++ rest) cells ≡ noted_all n (flat_map when_terms (drop (i + 1) ws) ++ rest) (noted n (get_or ws i d).right (noted n (get_or ws i d).left cells))
-  when_noted ws i d rest cells l = at_drop_more (λ (vs : List When). noted_all n (flat_map when_terms vs ++ rest) cells) ws i d l

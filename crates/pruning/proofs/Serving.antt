@@ -1,22 +1,24 @@
 -- The lowest marked clause that is tied to a cell or an operation.
 use Rattle.std.proofs.Common.{◌≡◌, ℕ, ◌≤◌, Bool, true, false, List, length, get_or, replicate, is_some, Some, None, Decides, Option, sym, refl, ap, ◌∙◌, subst, ⊎_elim, zero-add, arith}
-use Rattle.policy.specs.Meaning.{policy_of}
+use Rattle.book.specs.Books.{or_else}
+use Rattle.policy.specs.Meaning.{cs_of, policy_of}
 use Rattle.policy.specs.Policies.{Cs, Po}
+use Rattle.policy.specs.declared.table.Clause.{Clause}
 use Rattle.policy.specs.declared.table.Table.{Table}
 use Rattle.pruning.proofs.Firsts.{first_some, first_none}
 use Rattle.pruning.proofs.Flags.{none_up}
 use Rattle.policy.proofs.Few.{few_clauses, few_cells}
 use Rattle.pruning.proofs.Noting.{noted_back, noted_new}
 use Rattle.pruning.proofs.Settling.{Right, right, exact_clause, why_decides}
-use Rattle.pruning.specs.Marking.{Marked, first_from, marks_of}
+use Rattle.pruning.specs.Marking.{Marked, first_from, marks_of, reason_of}
 use Rattle.pruning.specs.Reasons.{Tied, tied, served, lowest_of, Serves, Lowest, why_of, Meaningful}
 use Rattle.pruning.specs.Rules.MeaningfulCell.{by_reading}
 use Rattle.pruning.specs.Rules.{ClauseAt, MeaningfulClause, terms_of}
 use Rattle.pruning.specs.declared.marks.Marks.{Marks}
-use Rattle.pruning.specs.declared.marks.Reason.{Reason}
 use Rattle.pruning.specs.declared.marks.Tie.TheVariants.{Reads as READS, AppliesTo as APPLIES}
 use Rattle.pruning.specs.declared.marks.Tie.{Tie}
 use Rattle.std.proofs.lemmas.List.{length-replicate}
+use Rattle.std.specs.List.{slice_get}
 use Rattle.std.proofs.lemmas.Bool.{false≢true, and_parts, and_from}
 use Rattle.std.proofs.lemmas.Bool.Decides.{Decides-at}
 
@@ -80,8 +82,9 @@ lowest_promised x t m r is =
     let l = subst (Lowest p t m.clauses) (sym is) (lowest_is p (few_cells x) t m) in
     (l, λ e. own_decides p m (subst (Right p) (sym e) (right p (few_clauses x) (few_cells x))) t r l)
 
--- of the table's own marks a reason tells which clauses are meaningful
-pub why_promised : (x : Table) (m : Marks) (i : ℕ) (r : Option Reason) → r ≡ why_of (policy_of x) m i → m ≡ marks_of (policy_of x) → Decides (is_some r) (MeaningfulClause (policy_of x) i)
-why_promised x m i r is e =
+-- the reason of a clause that is read tells, of the table's own marks, which clauses are meaningful
+pub why_promised : (x : Table) (m : Marks) (i : ℕ) (c : Clause) → slice_get (policy_of x).clauses i ≡ Some (cs_of c) → m ≡ marks_of (policy_of x) → Decides (is_some (reason_of c.action m.cells)) (MeaningfulClause (policy_of x) i)
+why_promised x m i c at e =
     let p = policy_of x in
-    Decides-at (is_some r) (is_some (why_of p m i)) (ap is_some is) (why_decides p m (subst (Right p) (sym e) (right p (few_clauses x) (few_cells x))) i)
+    let why : Option Cs → Bool = λ o. is_some (or_else None (λ (k : Cs). reason_of k.action m.cells) o) in
+    Decides-at (is_some (reason_of c.action m.cells)) (is_some (why_of p m i)) (ap why (sym at)) (why_decides p m (subst (Right p) (sym e) (right p (few_clauses x) (few_cells x))) i)

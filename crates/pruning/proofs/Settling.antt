@@ -1,5 +1,5 @@
 -- The marking: what each clause that is marked keeps, and what stands when none is due.
-use Rattle.std.proofs.Common.{◌≡◌, ℕ, zero, suc, ◌<◌, ◌≤◌, Bool, true, false, cond, not, List, [], length, get_or, set, replicate, is_some, Some, None, Decides, Option, sym, refl, ap, ◌∙◌, subst, ⊎_elim, zero-add, arith}
+use Rattle.std.proofs.Common.{◌≡◌, ℕ, zero, suc, ◌<◌, ◌≤◌, Bool, true, false, cond, not, List, [], length, get_or, replicate, is_some, Some, None, Decides, Option, sym, refl, ap, ◌∙◌, subst, ⊎_elim, zero-add, arith}
 use Rattle.book.specs.Books.{or_else}
 use Rattle.policy.specs.Policies.{Cs, Po}
 use Rattle.policy.specs.declared.table.Action.TheVariants.{Violate, Write}
@@ -9,7 +9,7 @@ use Rattle.policy.specs.declared.table.Term.{Term}
 use Rattle.pruning.proofs.Firsts.{first_some, first_none}
 use Rattle.pruning.proofs.Flags.{flag_set, down, down_set, none_up}
 use Rattle.pruning.proofs.Noting.{noted_all_length, noted_back, noted_kept, noted_new}
-use Rattle.pruning.specs.Marking.{Marked, reason_of, noted_all, due, next_of, terms_at, marked_at, turned, marked_from, no_marks, marks_of}
+use Rattle.pruning.specs.Marking.{Marked, reason_of, due, next_of, terms_at, marked_at, turned, marked_from, no_marks, marks_of}
 use Rattle.pruning.specs.Reasons.{why_of}
 use Rattle.pruning.specs.Rules.MeaningfulCell.{by_reading}
 use Rattle.pruning.specs.Rules.MeaningfulClause.{by_violation, by_write}
@@ -147,26 +147,6 @@ goes p fc fd m i g e = (length-set m.clauses i true ∙ g.0, sym (leads_on p fc 
 pub ends : (p : Po) → length p.clauses ≤ 256 → length p.cells ≤ 128 → Kept p (marks_of p) × Settled p (marks_of p)
 unfolding marks_of
 ends p fc fd = settles p fc fd 256 no_marks (kept_none p) (let e = down_none 256 in omega arith)
-
--- the marks with one clause more, where there is such a clause
-pub marked_there : (p : Po) (i : ℕ) (m : Marks) (c : Cs) (n : ℕ) (clauses cells : List Bool) → ClauseAt p i c → n ≡ length p.cells → clauses ≡ set m.clauses i true → cells ≡ noted_all n (terms_of c) m.cells → record { clauses = clauses; cells = cells } ≡ marked_at p i m
-marked_there p i m c n clauses cells at long e f = ap pair e ∙ ap with (f ∙ ap (λ (k : ℕ). noted_all k (terms_of c) m.cells) long ∙ ap (λ (o : Option Cs). noted_all (length p.cells) (or_else [] terms_of o) m.cells) (sym at))
-  where
-    pair : List Bool → Marks
-    pair x = record { clauses = x; cells = cells }
-
-    with : List Bool → Marks
-    with x = record { clauses = set m.clauses i true; cells = x }
-
--- and where there is none
-pub marked_past : (p : Po) (i : ℕ) (m : Marks) (clauses : List Bool) → slice_get p.clauses i ≡ None → clauses ≡ set m.clauses i true → record { clauses = clauses; cells = m.cells } ≡ marked_at p i m
-marked_past p i m clauses at e = ap pair e ∙ ap with (ap (λ (o : Option Cs). noted_all (length p.cells) (or_else [] terms_of o) m.cells) (sym at))
-  where
-    pair : List Bool → Marks
-    pair x = record { clauses = x; cells = m.cells }
-
-    with : List Bool → Marks
-    with x = record { clauses = set m.clauses i true; cells = x }
 
 -- The marks when none is due.
 

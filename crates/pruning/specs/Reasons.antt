@@ -60,6 +60,10 @@ operation_marked p m o = is_some (lowest_of p (APPLIES o) m)
 abbrev pub after_marked : Po → Marks → After → Bool
 after_marked p m a = operation_marked p m a.operation
 
--- the steps of a call, its BEFOREs and its AFTERs: how many are kept, those to whose operation a marked clause applies, and how many there are
+-- how many steps of a call are kept: those BEFOREs and AFTERs to whose operation a marked clause applies
+abbrev pub kept_of : Po → Marks → Cl → ℕ
+kept_of p m c = count_by (operation_marked p m) c.befores + count_by (after_marked p m) c.afters
+
+-- the steps of a call, its BEFOREs and its AFTERs: how many are kept, and how many there are
 abbrev pub steps_of : Po → Marks → Cl → StepCount
-steps_of p m c = record { kept = count_by (operation_marked p m) c.befores + count_by (after_marked p m) c.afters; all = length c.befores + length c.afters }
+steps_of p m c = record { kept = kept_of p m c; all = length c.befores + length c.afters }

@@ -1,5 +1,5 @@
 // The marking: one clause after another, until none is due.
-ghost use Rattle.std.specs.Prelude.{◌≡◌, ℕ, Bool, true, false, Decides, slice_index_or, slice_set};
+ghost use Rattle.std.specs.Prelude.{◌≡◌, ℕ, Bool, true, false, Decides, length, slice_index_or, slice_set};
 ghost use Rattle.policy.specs.Meaning.{cs_of, policy_of};
 ghost use Rattle.pruning.specs.Marking.{Marked, reason_of, noted, noted_all, due, next_of, marked_at, no_marks, marks_of};
 ghost use Rattle.pruning.specs.Rules.{Obeys, Chosen, MeaningfulClause, MeaningfulCell, when_terms, action_terms, terms_of};
@@ -8,6 +8,7 @@ use crate::marks::{Marks, Reason};
 use policy::table::{Action, CELLS, CLAUSES, Clause, Table, Term, When};
 
 // Raises the flag of that number, where there is one.
+// By its index: no contract says what a slice ends as after a write through its `get_mut`.
 fn raise(flags: &mut [bool], number: usize)
     ensures { flags.new ≡ slice_set flags.old number true }
 {
@@ -16,43 +17,48 @@ fn raise(flags: &mut [bool], number: usize)
     }
 }
 
-// Marks the cell of a term, in a policy with that many cells.
-fn note(term: Term, count: usize, cells: &mut [bool; CELLS])
-    ensures { cells.new ≡ noted count term cells.old }
+// Marks the cell of a term, in a policy with as many cells as there are flags.
+fn note(term: Term, cells: &mut [bool])
+    ensures { cells.new ≡ noted (length cells.old) term cells.old }
 {
     if let Term::Cell(number) = term {
-        let cell = number as usize;
-        if cell < count {
-            raise(cells, cell);
-        }
+        raise(cells, number as usize);
     }
 }
 
 // Marks the cells in the terms of a condition.
-fn note_when(when: When, count: usize, cells: &mut [bool; CELLS])
-    ensures { cells.new ≡ noted_all count (when_terms when) cells.old }
+fn note_when(when: When, cells: &mut [bool])
+    ensures { cells.new ≡ noted_all (length cells.old) (when_terms when) cells.old }
 {
-    note(when.left, count, cells);
-    note(when.right, count, cells);
+    note(when.left, cells);
+    note(when.right, cells);
 }
 
 // Marks the cell in the term of an action.
-fn note_action(action: Option<Action>, count: usize, cells: &mut [bool; CELLS])
-    ensures { cells.new ≡ noted_all count (action_terms action) cells.old }
+fn note_action(action: Option<Action>, cells: &mut [bool])
+    ensures { cells.new ≡ noted_all (length cells.old) (action_terms action) cells.old }
 {
     if let Some(Action::Write(_, _, term)) = action {
-        note(term, count, cells);
+        note(term, cells);
     }
 }
 
 // Marks the cells that stand in the terms of a clause: those of its conditions and of its action.
-pub(crate) fn note_terms(clause: &Clause, count: usize, cells: &mut [bool; CELLS])
-    ensures { cells.new ≡ noted_all count (terms_of (cs_of clause.now)) cells.old }
+fn note_terms(clause: &Clause, cells: &mut [bool])
+    ensures { cells.new ≡ noted_all (length cells.old) (terms_of (cs_of clause.now)) cells.old }
 {
     for when in clause.whens() {
-        note_when(*when, count, cells);
+        note_when(*when, cells);
     }
-    note_action(clause.action(), count, cells);
+    note_action(clause.action(), cells);
+}
+
+// Marks the cells of the table that stand in the terms of a clause.
+pub(crate) fn note_clause(table: &Table, clause: &Clause, cells: &mut [bool; CELLS])
+    ensures { cells.new ≡ noted_all (length (policy_of table.now).cells) (terms_of (cs_of clause.now)) cells.old }
+{
+    let count = table.cells().len();
+    note_terms(clause, &mut cells[..count]);
 }
 
 impl Marks {
@@ -70,16 +76,12 @@ impl Marks {
     pub(crate) fn reason_for(&self, clause: &Clause) -> Option<Reason>
         ensures { result ≡ reason_of (cs_of clause.now).action self.now.cells }
     {
-        match clause.action() {
-            Some(Action::Violate) => Some(Reason::Violates),
-            Some(Action::Write(_, cell, _)) => {
-                if self.cell(cell as usize) {
-                    Some(Reason::Writes(cell))
-                } else {
-                    None
-                }
+        match clause.action()? {
+            Action::Violate => Some(Reason::Violates),
+            Action::Write(_, cell, _) => {
+                let marked = self.cell(cell as usize);
+                marked.then_some(Reason::Writes(cell))
             }
-            None => None,
         }
     }
 
@@ -94,22 +96,20 @@ impl Marks {
     fn next(&self, table: &Table) -> Option<usize>
         ensures { result ≡ next_of (policy_of table.now) self.now }
     {
-        for (number, clause) in table.clauses().iter().enumerate() {
-            if self.is_due(number, clause) {
-                return Some(number);
-            }
-        }
-        None
+        table
+            .clauses()
+            .iter()
+            .enumerate()
+            .position(|(number, clause)| self.is_due(number, clause))
     }
 
     // Marks the clause of that number, and the cells that stand in its terms.
     fn choose(&mut self, table: &Table, number: usize)
         ensures { self.new ≡ marked_at (policy_of table.now) number self.old }
     {
-        let clauses = table.clauses();
         raise(&mut self.clauses, number);
-        if number < clauses.len() {
-            note_terms(&clauses[number], table.cells().len(), &mut self.cells);
+        if let Some(clause) = table.clauses().get(number) {
+            note_clause(table, clause, &mut self.cells);
         }
     }
 }
