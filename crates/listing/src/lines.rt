@@ -14,7 +14,7 @@ use tables::name::Name;
 
 // A line: a cell or a clause with its number and whether it is meaningful, or a call with its
 // number, its name and its steps.
-#[derive(Clone, Copy)]
+#[derive(Clone, Copy, Debug, PartialEq, Eq)]
 pub enum Line {
     Cell(usize, bool),
     Clause(usize, bool),
@@ -51,22 +51,20 @@ impl fmt::Display for Line {
 }
 
 // The lines of a table, with those marks of it.
-fn lines(heap: Global, marking: &Marking<'_>) -> Result<Vec<Line>, AllocError>
+fn lines(heap: Global, marking: &Marking) -> Result<Vec<Line>, AllocError>
     ensures { IfOk result (λ v. v.items ≡ lines_with (book_of marking.now.table.now.book) (policy_of marking.now.table.now) marking.now.marks.now) }
 {
-    let table = marking.table;
-    let marks = marking.marks;
+    let Marking { table, marks } = *marking;
     let cells = table.cells().iter().enumerate();
     let clauses = table.clauses().iter().enumerate();
     let calls = table.book().calls().iter().enumerate();
     cells
         .map(|(number, _)| Line::Cell(number, marks.cell(number)))
         .chain(clauses.map(|(number, _)| Line::Clause(number, marks.clause(number))))
-        .chain(calls.map(|(number, call)| Line::Call(
-            number,
-            call.name(),
-            marking.count_steps(call),
-        )))
+        .chain(calls.map(|(number, call)| {
+            let steps = marking.count_steps(call);
+            Line::Call(number, call.name(), steps)
+        }))
         .collect(heap)
 }
 
