@@ -1,5 +1,5 @@
 -- The marking: what each clause that is marked keeps, and what stands when none is due.
-use Rattle.std.proofs.Common.{◌≡◌, ℕ, zero, suc, ◌<◌, ◌≤◌, Bool, true, false, cond, not, List, [], length, get_or, replicate, is_some, Some, None, Decides, Option, sym, refl, ap, ◌∙◌, subst, ⊎_elim, zero-add, arith}
+use Rattle.std.proofs.Common.{◌≡◌, ℕ, zero, suc, ◌<◌, ◌≤◌, Bool, true, false, cond, not, List, [], length, get_or, is_some, Some, None, Decides, Option, sym, refl, ap, ◌∙◌, subst, ⊎_elim, zero-add, arith}
 use Rattle.book.specs.Books.{or_else}
 use Rattle.policy.specs.Policies.{Cs, Po}
 use Rattle.policy.specs.declared.table.Action.TheVariants.{Violate, Write}
@@ -7,7 +7,7 @@ use Rattle.policy.specs.declared.table.Action.{Action}
 use Rattle.policy.specs.declared.table.Term.TheVariants.{Cell}
 use Rattle.policy.specs.declared.table.Term.{Term}
 use Rattle.pruning.proofs.Firsts.{first_some, first_none}
-use Rattle.pruning.proofs.Flags.{flag_set, down, down_set, none_up}
+use Rattle.pruning.proofs.Flags.{flag_set, down, down_set, down_none, none_up}
 use Rattle.pruning.proofs.Noting.{noted_all_length, noted_back, noted_kept, noted_new}
 use Rattle.pruning.specs.Marking.{Marked, reason_of, due, next_of, terms_at, marked_at, turned, marked_from, no_marks, marks_of}
 use Rattle.pruning.specs.Reasons.{why_of}
@@ -18,13 +18,9 @@ use Rattle.pruning.specs.declared.marks.Marks.{Marks}
 use Rattle.pruning.specs.declared.marks.Reason.TheVariants.{Writes as WRITES}
 use Rattle.pruning.specs.declared.marks.Reason.{Reason}
 use Rattle.std.proofs.lemmas.List.{length-set, length-replicate}
-use Rattle.std.proofs.lemmas.Option.{slice_get_past}
-use Rattle.std.proofs.lemmas.Bool.{false≢true, and_parts, and_from, not-true, not_from_false, cases_Bool, cases_lt}
+use Rattle.std.proofs.lemmas.Option.{slice_get_within}
+use Rattle.std.proofs.lemmas.Bool.{false≢true, and_parts, and_from, not-true, not_from_false, cases_Bool}
 use Rattle.std.specs.List.{ContainsAt as Among, slice_get}
-
--- there is an element of that number only below the length
-nth_within : (cs : List Cs) (i : ℕ) (c : Cs) → slice_get cs i ≡ Some c → i < length cs
-nth_within cs i c e = ⊎_elim (λ l. l) (λ l. absurd (let z : None ≡ Some c = sym (slice_get_past cs i l) ∙ e in let y : ◌≡◌ {A = ℕ} 0 1 = cc in omega arith)) (cases_lt i (length cs))
 
 -- marks so far: what is marked is meaningful, and what a marked clause reads is marked
 pub record Kept (p : Po) (m : Marks) : Type 0 where
@@ -70,7 +66,7 @@ settled_marked p m s i c at r =
 
 module _ (p : Po) (few_clauses : length p.clauses ≤ 256) (few_cells : length p.cells ≤ 128) where
   within : (m : Marks) → length m.clauses ≡ 256 → (i : ℕ) → DueAt p m i → i < length m.clauses
-  within m long i d = let l = nth_within p.clauses i d.clause d.at in omega arith
+  within m long i d = let l = slice_get_within p.clauses i d.clause d.at in omega arith
 
   -- one clause fewer is down
   pub falls : (m : Marks) → length m.clauses ≡ 256 → (i : ℕ) → next_of p m ≡ Some i → down m.clauses ≡ suc (down (marked_at p i m).clauses)
@@ -127,10 +123,6 @@ kept_none p = record {
   cells_mean = λ d h. absurd (false≢true (sym (none_up 128 d) ∙ h));
   read = λ i d c at h r. absurd (false≢true (sym (none_up 256 i) ∙ h));
 }
-
-pub down_none : (n : ℕ) → down (replicate n false) ≡ n
-down_none zero = refl
-down_none (suc n) = let e = down_none n in omega arith
 
 -- what is marked so far leads to the marks of the policy
 abbrev pub Going : Po → Marks → Type 0
