@@ -22,6 +22,7 @@ pub enum Line {
 }
 
 // The word for a mark.
+// A type of its own with a Display is no plainer: it has the same words, and wraps each mark.
 fn word(meaningful: bool) -> &'static str
     ensures { result.now ≡ word_of meaningful }
 {

@@ -54,6 +54,7 @@ fn note_terms(clause: &Clause, cells: &mut [bool])
 }
 
 // Marks the cells of the table that stand in the terms of a clause.
+// A whole array, not a slice: it has a flag for each cell that a table can have, whatever the table.
 pub(crate) fn note_clause(table: &Table, clause: &Clause, cells: &mut [bool; CELLS])
     ensures { cells.new ≡ noted_all (length (policy_of table.now).cells) (terms_of (cs_of clause.now)) cells.old }
 {

@@ -19,7 +19,6 @@ pub enum Reason {
 }
 
 // What a clause may have to do with a cell, or with an operation.
-// No closure stands in its place: what is promised of a cell is not what is promised of an operation.
 #[derive(Clone, Copy, Debug, PartialEq, Eq)]
 pub enum Tie {
     Reads(usize),

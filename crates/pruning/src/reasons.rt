@@ -21,6 +21,7 @@ pub struct Marking<'a> {
 
 impl Tie {
     // Whether the clause is tied so.
+    // A match and no closure: clauses name the tie, and promise of a cell other than of an operation.
     fn holds(self, table: &Table, clause: &Clause) -> bool
         ensures { result ≡ tied (policy_of table.now) self (cs_of clause.now) }
     {
