@@ -1,46 +1,53 @@
--- What stands in numbers that are cut, and the cut of numbers after a put; n is where they are cut.
-use Rattle.std.proofs.Common.{◌≡◌, ℕ, zero, suc, ◌<◌, ◌≤◌, min, List, [], ◌∷◌, ◌++◌, length, get_or, take, drop, set, Some, None, sym, refl, ap, ◌∙◌, ⊎_elim, arith}
-use Rattle.std.proofs.lemmas.List.{length-take, get_or-take, set_past, take-append-drop, set-append_left}
-use Rattle.std.proofs.lemmas.Bool.{cond_below, cond_above, cases_lt}
+-- Entries and puts where numbers are cut and where grounds are joined; n is where they are cut.
+use Rattle.std.proofs.Common.{◌≡◌, ℕ, ◌-◌, ◌<◌, ◌≤◌, List, ◌++◌, length, take, drop, set, Some, None, sym, ap, ◌∙◌, arith}
+use Rattle.std.proofs.lemmas.List.{take-append-drop, set-append_left, set-append_right, set_past, drop-set-lt}
+use Rattle.std.proofs.Math.Seq.{take-set-lt}
+use Rattle.std.proofs.lemmas.Grind.{common_steps}
 use Rattle.register.specs.Plots.{entry_at}
 
-pub entry_there : (xs : List ℕ) (p : ℕ) → p < length xs → Some (get_or xs p 0) ≡ entry_at xs p
-entry_there xs p h = cond_below p (length xs) _ _ h
+module _ (n : ℕ) (xs : List ℕ) (p v : ℕ) where
+  -- there is a plot just where an entry is found
+  pub plot_there : Some v ≡ entry_at (take n xs) p → (p < n) × (p < length xs)
+  plot_there e = grind (arith, common_steps)
 
-pub entry_past : (xs : List ℕ) (p : ℕ) → length xs ≤ p → None ≡ entry_at xs p
-entry_past xs p h = cond_above p (length xs) _ _ _ h refl
+  pub plot_past : None ≡ entry_at (take n xs) p → length (take n xs) ≤ p
+  plot_past e = grind (arith, common_steps)
 
-module _ (n : ℕ) (xs : List ℕ) (p : ℕ) where
-  pub cut_there : p < length xs → p < n → Some (get_or xs p 0) ≡ entry_at (take n xs) p
-  cut_there h k =
-      let l : p < length (take n xs) = simp length-take (omega arith) in
-      ap Some (sym (get_or-take n xs p 0 k)) ∙ entry_there (take n xs) p l
+  pub found_past : n ≤ p → None ≡ entry_at (take n xs) p
+  found_past h = grind (arith, common_steps)
 
-  pub cut_past : min n (length xs) ≤ p → None ≡ entry_at (take n xs) p
-  cut_past h = entry_past (take n xs) p (simp length-take h)
+  pub put_past : n ≤ p → take n xs ≡ set (take n xs) p v
+  put_past h = grind (arith, common_steps)
 
-  -- below the cut, the cut list and the whole one have the same entry
-  pub entry_cut : p < n → entry_at (take n xs) p ≡ entry_at xs p
-  entry_cut h =
-      ⊎_elim
-      (λ l. sym (cut_there l h) ∙ entry_there xs p l)
-      (λ l. sym (cut_past (omega arith)) ∙ entry_past xs p l)
-      (cases_lt p (length xs))
+  pub numbers_there : p < n → set xs p v ≡ set (take n xs) p v ++ drop n xs
+  numbers_there h = grind (arith, common_steps, sym (take-append-drop n (set xs p v)), take-set-lt n xs p v h, drop-set-lt n xs p v h)
 
-  pub set-cut_past : (v : ℕ) → min n (length xs) ≤ p → set (take n xs) p v ≡ take n xs
-  set-cut_past v h = set_past (take n xs) p v (simp length-take h)
+  pub numbers_past : length (take n xs) ≤ p → xs ≡ set (take n xs) p v ++ drop n xs
+  numbers_past h = grind (arith, common_steps, sym (take-append-drop n xs), set_past (take n xs) p v h)
 
-  -- a number that is written below the cut, and the numbers where nothing is written
-  pub numbers_there : (v : ℕ) → p < length xs → p < n → set xs p v ≡ set (take n xs) p v ++ drop n xs
-  numbers_there v h k =
-      let l : p < length (take n xs) = simp length-take (omega arith) in
-      ap (λ ys. set ys p v) (sym (take-append-drop n xs)) ∙ set-append_left (take n xs) (drop n xs) p v l
+-- two grounds joined, of which the first has m plots
+module _ (n m : ℕ) (xs ys : List ℕ) (e : m ≡ length xs) (p v : ℕ) where
+  pub found_first : p < m → length xs ≤ n → entry_at xs p ≡ entry_at (take n (xs ++ ys)) p
+  found_first h k = grind (arith, common_steps)
 
-  pub numbers_past : (v : ℕ) → min n (length xs) ≤ p → xs ≡ set (take n xs) p v ++ drop n xs
-  numbers_past v h = sym (take-append-drop n xs) ∙ ap (λ ys. ys ++ drop n xs) (sym (set-cut_past v h))
+  pub found_second : m ≤ p → p < n → entry_at ys (p - m) ≡ entry_at (take n (xs ++ ys)) p
+  found_second h k = grind (arith, common_steps)
 
-pub take-set : (n : ℕ) (xs : List ℕ) (p v : ℕ) → take n (set xs p v) ≡ set (take n xs) p v
-take-set zero xs p v = refl
-take-set (suc n) [] p v = refl
-take-set (suc n) (x ∷ xs) zero v = refl
-take-set (suc n) (x ∷ xs) (suc p) v = ap (λ ys. x ∷ ys) (take-set n xs p v)
+  -- a put in one ground is a put in both as one list
+  first_whole : p < m → set xs p v ++ ys ≡ set (xs ++ ys) p v
+  first_whole h = sym (set-append_left xs ys p v (omega arith))
+
+  second_whole : m ≤ p → xs ++ set ys (p - m) v ≡ set (xs ++ ys) p v
+  second_whole h = sym (set-append_right xs ys m p v (sym e) h)
+
+  pub put_first : p < m → length xs ≤ n → take n (set xs p v ++ ys) ≡ set (take n (xs ++ ys)) p v
+  put_first h k = ap (take n) (first_whole h) ∙ take-set-lt n (xs ++ ys) p v (omega arith)
+
+  pub put_second : m ≤ p → p < n → take n (xs ++ set ys (p - m) v) ≡ set (take n (xs ++ ys)) p v
+  put_second h k = ap (take n) (second_whole h) ∙ take-set-lt n (xs ++ ys) p v k
+
+  pub rest_first : p < m → length xs ≤ n → drop n (set xs p v ++ ys) ≡ drop n (xs ++ ys)
+  rest_first h k = ap (drop n) (first_whole h) ∙ drop-set-lt n (xs ++ ys) p v (omega arith)
+
+  pub rest_second : m ≤ p → p < n → drop n (xs ++ set ys (p - m) v) ≡ drop n (xs ++ ys)
+  rest_second h k = ap (drop n) (second_whole h) ∙ drop-set-lt n (xs ++ ys) p v k

@@ -28,12 +28,13 @@ impl<'a> Flat<'a> {
     }
 }
 
-// How many numbers there are; as each is a u32, it is below 2^32.
-fn count_of(numbers: &[u32]) -> usize
-    ensures count { result ≡ length numbers.now }
-    ensures fit { Fit numbers.now }
+// The plots among the numbers. As each number is a u32, it is below 2^32.
+fn plots_of(numbers: &[u32]) -> &[u32]
+    ensures plots { result.now ≡ cut numbers.now }
+    ensures fit { Fit (cut numbers.now) }
 {
-    numbers.iter().len()
+    let count = numbers.len().min(MOST as usize);
+    &numbers[..count]
 }
 
 impl Register for Flat<'_> {
@@ -48,20 +49,11 @@ impl Register for Flat<'_> {
     ghost linked = { λ f g h. loan_linked f.numbers g.numbers h.numbers };
 
     fn plots(&self) -> u32 {
-        let count = count_of(self.numbers);
-        if count < MOST as usize {
-            count as u32
-        } else {
-            MOST
-        }
+        plots_of(self.numbers).len() as u32
     }
 
     fn look(&self, plot: u32) -> Option<u32> {
-        let i = plot as usize;
-        if i >= self.numbers.len() || plot >= MOST {
-            return None;
-        }
-        Some(self.numbers[i])
+        plots_of(self.numbers).get(plot as usize).copied()
     }
 
     fn put(&mut self, plot: u32, entry: u32) -> Option<u32>
@@ -70,13 +62,8 @@ impl Register for Flat<'_> {
         ensures beside { SameLoan self.old.numbers self.new.numbers }
         ensures numbers { self.new.numbers.now ≡ numbers_after self.old.numbers.now plot entry }
     {
-        let i = plot as usize;
-        if i < self.numbers.len() && plot < MOST {
-            let found = self.numbers[i];
-            self.numbers[i] = entry;
-            Some(found)
-        } else {
-            None
-        }
+        let found = self.look(plot)?;
+        self.numbers[plot as usize] = entry;
+        Some(found)
     }
 }

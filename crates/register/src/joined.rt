@@ -41,8 +41,7 @@ impl<A: Register, B: Register> Register for Joined<A, B> {
     ghost linked = { λ i j k s t. (A.Register.linked i.first j.first k.first s.0 t.0, B.Register.linked i.second j.second k.second s.1 t.1, seam_linked _ _ _ _ _ _ s.2 t.2) };
 
     fn plots(&self) -> u32 {
-        let sum = self.first.plots() + self.second.plots();
-        if sum < MOST { sum } else { MOST }
+        (self.first.plots() + self.second.plots()).min(MOST)
     }
 
     fn look(&self, plot: u32) -> Option<u32> {
@@ -57,14 +56,13 @@ impl<A: Register, B: Register> Register for Joined<A, B> {
     }
 
     fn put(&mut self, plot: u32, entry: u32) -> Option<u32> {
-        if plot >= MOST {
-            return None;
-        }
         let seam = self.first.plots();
         if plot < seam {
             self.first.put(plot, entry)
-        } else {
+        } else if plot < MOST {
             self.second.put(plot - seam, entry)
+        } else {
+            None
         }
     }
 }

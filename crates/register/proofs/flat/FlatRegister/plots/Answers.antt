@@ -1,15 +1,6 @@
-use Rattle.std.proofs.Common.{arith}
-use Rattle.std.proofs.lemmas.List.{length-take}
-use Rattle.register.specs.Plots.{Fit}
-use Rattle.register.specs.Shown.{cut_fit}
+use Rattle.std.proofs.Common.{length, ap, arith}
+use Rattle.register.specs.Shown.{cut_short}
 use Rattle.register.proofs.flat.FlatRegister.plots.Goals as goal
 
-pub returns-then-count : goal.returns-then-count
-returns-then-count c =
-    let f : Fit c.args.self.now.numbers.now = c.count_of-count.ensures.fit in
-    record { count = simp length-take (omega arith); fit = cut_fit c.args.self.now.numbers.now f }
-
-pub returns-else-count : goal.returns-else-count
-returns-else-count c =
-    let f : Fit c.args.self.now.numbers.now = c.count_of-count.ensures.fit in
-    record { count = simp length-take (omega arith); fit = cut_fit c.args.self.now.numbers.now f }
+pub overflow_cast-result : goal.overflow_cast-result
+overflow_cast-result c = omega (arith, cut_short c.args.self.now.numbers.now, ap length c.plots_of.ensures.plots)

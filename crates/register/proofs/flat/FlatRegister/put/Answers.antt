@@ -1,26 +1,32 @@
-use Rattle.std.proofs.Common.{◌≤◌, min, length, sym, refl, arith}
-use Rattle.std.proofs.lemmas.List.{drop-set-lt}
-use Rattle.register.specs.Plots.{most}
-use Rattle.register.proofs.Cuts.{cut_there, cut_past, take-set, set-cut_past, numbers_there, numbers_past}
+use Rattle.std.proofs.Common.{sym, refl}
+use Rattle.std.proofs.Math.Seq.{take-set-lt}
+use Rattle.std.proofs.lemmas.List.{drop-set-lt, set_past}
+use Rattle.register.specs.Plots.{most, cut}
+use Rattle.register.proofs.Cuts.{plot_there, plot_past, numbers_there, numbers_past}
 use Rattle.register.proofs.flat.FlatRegister.put.Goals as goal
 
-pub returns-then-plot-lt-MOST : goal.returns-then-plot-lt-MOST
-returns-then-plot-lt-MOST c =
+pub returns-in_err-found-clause-plots : goal.returns-in_err-found-clause-plots
+returns-in_err-found-clause-plots c =
     let xs = c.args.self.now.numbers.now in
-    record {
-      found = cut_there most _ _ c.if-i-self.true c.if-plot-lt-MOST.true;
-      plots = take-set most xs c.args.plot c.args.entry;
-      beside = record { place = refl; rest = drop-set-lt most xs c.args.plot c.args.entry c.if-plot-lt-MOST.true };
-      numbers = numbers_there most xs c.args.plot c.args.entry c.if-i-self.true c.if-plot-lt-MOST.true;
-    }
+    let h = plot_past most xs c.args.plot c.args.entry c.in_err-found.ensures in
+    sym (set_past (cut xs) c.args.plot c.args.entry h)
 
-pub returns-else-i-self : goal.returns-else-i-self
-returns-else-i-self c =
+pub returns-in_err-found-clause-numbers : goal.returns-in_err-found-clause-numbers
+returns-in_err-found-clause-numbers c =
     let xs = c.args.self.now.numbers.now in
-    let h : min most (length xs) ≤ c.args.plot = omega (arith, c.else-i-self.either) in
+    let h = plot_past most xs c.args.plot c.args.entry c.in_err-found.ensures in
+    numbers_past most xs c.args.plot c.args.entry h
+
+pub bounds-self-plot : goal.bounds-self-plot
+bounds-self-plot c = (plot_there most _ _ _ c.in_ok-found.ensures).1
+
+pub returns : goal.returns
+returns c =
+    let xs = c.args.self.now.numbers.now in
+    let h = (plot_there most xs c.args.plot _ c.in_ok-found.ensures).0 in
     record {
-      found = cut_past most xs c.args.plot h;
-      plots = sym (set-cut_past most xs c.args.plot c.args.entry h);
-      beside = record { place = refl; rest = refl };
-      numbers = numbers_past most xs c.args.plot c.args.entry h;
+      found = c.in_ok-found.ensures;
+      plots = take-set-lt most xs c.args.plot c.args.entry h;
+      beside = record { place = refl; rest = drop-set-lt most xs c.args.plot c.args.entry h };
+      numbers = numbers_there most xs c.args.plot c.args.entry h;
     }
