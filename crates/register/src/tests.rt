@@ -18,13 +18,9 @@ fn check_flat(rt: &impl Abort, heap: Global, length: usize, plots: u32) -> Resul
         assert_eq!(rt; ground.put(last, 9), Some(7));
         assert_eq!(rt; ground.look(last), Some(9));
     }
-    let mut written = 0u32;
-    for number in ground.into_numbers().iter() {
-        if *number == 9 {
-            written = written.saturating_add(1);
-        }
-    }
-    assert_eq!(rt; written, plots.min(1));
+    let numbers = ground.into_numbers();
+    let written = numbers.iter().filter(|number| **number == 9).count();
+    assert_eq!(rt; written, plots.min(1) as usize);
     Ok(())
 }
 
