@@ -10,13 +10,14 @@ use register::register::Register;
 use std::alloc::{AllocError, Global};
 
 // An entry to be put at a plot.
-#[derive(Clone, Copy)]
+#[derive(Clone, Copy, Debug, PartialEq, Eq)]
 pub struct Burial {
     pub plot: u32,
     pub entry: u32,
 }
 
 // How many plots the grounds have, what each burial found, and the numbers of both grounds, handed back.
+// The burials stay the caller's, so what they found is the list of the answers to them, in their order.
 #[derive(Drop)]
 pub struct Recorded<'a> {
     pub old_plots: u32,

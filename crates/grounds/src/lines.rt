@@ -3,7 +3,7 @@ use crate::burials::Burial;
 use std::fmt;
 
 // What became of one burial.
-#[derive(Drop)]
+#[derive(Clone, Copy, Debug, PartialEq, Eq)]
 pub struct Outcome {
     pub burial: Burial,
     pub found: Option<u32>,
@@ -29,13 +29,12 @@ pub struct Ground<'a> {
 impl fmt::Display for Ground<'_> {
     fn fmt<W: fmt::Write>(&self, f: &mut fmt::Formatter<W>) -> fmt::Result {
         for (i, entry) in self.entries.iter().enumerate() {
-            if i % 10 > 0 {
-                write!(f, " {entry}")?;
-            } else if i > 0 {
-                write!(f, "\n{entry}")?;
-            } else {
-                write!(f, "{entry}")?;
-            }
+            let space = match (i, i % 10) {
+                (0, _) => "",
+                (_, 0) => "\n",
+                _ => " ",
+            };
+            write!(f, "{space}{entry}")?;
         }
         Ok(())
     }

@@ -11,7 +11,6 @@ use burials::{Burial, Recorded, record_burials};
 use lines::{Ground, Outcome};
 use reading::{Fault, Problem, read_burials, read_entries};
 use std::fs;
-use std::io::ErrorKind;
 
 // The numbers of the three files.
 #[derive(Drop)]
@@ -21,43 +20,35 @@ struct Input {
     burials: Vec<Burial>,
 }
 
+// The text of a file.
 fn read_text(rt: &HostRuntime, file: &'static str) -> Result<String, Fault> {
-    match fs::read_to_string(rt, file) {
-        Ok(text) => Ok(text),
-        Err(error) => match error.kind() {
-            ErrorKind::NotFound => Err(Fault {
-                file,
-                problem: Problem::Missing,
-            }),
-            _ => Err(Fault {
-                file,
-                problem: Problem::NoText,
-            }),
-        },
-    }
+    fs::read_to_string(rt, file).map_err(|error| Fault {
+        file,
+        problem: Problem::from(error),
+    })
 }
 
+// The entries of a ground.
 fn read_ground(rt: &HostRuntime, file: &'static str) -> Result<Vec<u32>, Fault> {
     let text = read_text(rt, file)?;
-    match read_entries(rt.alloc(), text.as_str()) {
-        Ok(entries) => Ok(entries),
-        Err(problem) => Err(Fault { file, problem }),
-    }
+    read_entries(rt.alloc(), text.as_str()).map_err(|problem| Fault { file, problem })
 }
 
+// The numbers of the three files, the old ground first.
 fn read_input(rt: &HostRuntime) -> Result<Input, Fault> {
     let old = read_ground(rt, "old.txt")?;
     let extension = read_ground(rt, "extension.txt")?;
     let file = "burials.txt";
     let text = read_text(rt, file)?;
-    match read_burials(rt.alloc(), text.as_str()) {
-        Ok(burials) => Ok(Input {
-            old,
-            extension,
-            burials,
-        }),
-        Err(problem) => Err(Fault { file, problem }),
-    }
+    let burials = read_burials(rt.alloc(), text.as_str()).map_err(|problem| Fault {
+        file,
+        problem,
+    })?;
+    Ok(Input {
+        old,
+        extension,
+        burials,
+    })
 }
 
 fn print_recorded(

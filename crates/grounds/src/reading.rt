@@ -1,22 +1,22 @@
 // From the texts of the three files to numbers, or to the fault in them.
 use crate::burials::Burial;
-use std::alloc::{AllocError, AllocFailed, Global};
-use std::fmt;
+use std::alloc::{AllocFailed, Global};
+use std::{fmt, io};
+use texts::number::{NotNumber, read_number};
+use texts::unread::Unread;
 
 // What is wrong with a text; lines are counted from 1.
-#[derive(Drop, Debug, PartialEq)]
+#[derive(Clone, Copy, Debug, PartialEq, Eq)]
 pub enum Problem {
-    Missing,
-    NoText,
-    NoNumber { line: usize },
-    TooLarge { line: usize },
+    Unread(Unread),
+    NotNumber { line: usize, why: NotNumber },
     NotTwo { line: usize },
     NoMemory,
 }
 
-impl From<AllocError> for Problem {
-    fn from(_error: AllocError) -> Problem {
-        Problem::NoMemory
+impl From<io::Error> for Problem {
+    fn from(error: io::Error) -> Problem {
+        Problem::Unread(Unread::from(error))
     }
 }
 
@@ -27,7 +27,7 @@ impl<T: Drop> From<AllocFailed<T>> for Problem {
 }
 
 // A fault and the file that has it.
-#[derive(Drop)]
+#[derive(Clone, Copy, Debug, PartialEq, Eq)]
 pub struct Fault {
     pub file: &'static str,
     pub problem: Problem,
@@ -36,14 +36,17 @@ pub struct Fault {
 impl fmt::Display for Fault {
     fn fmt<W: fmt::Write>(&self, f: &mut fmt::Formatter<W>) -> fmt::Result {
         let file = self.file;
-        match &self.problem {
-            Problem::Missing => write!(f, "{file} is missing"),
-            Problem::NoText => write!(f, "{file} cannot be read as text"),
-            Problem::NoNumber { line } => write!(f, "{file} line {line}: a word is no number"),
-            Problem::TooLarge { line } => write!(
-                f,
-                "{file} line {line}: a number is above 4294967295"
-            ),
+        match self.problem {
+            Problem::Unread(Unread::Missing) => write!(f, "{file} is missing"),
+            Problem::Unread(Unread::NoText) => write!(f, "{file} cannot be read as text"),
+            Problem::NotNumber {
+                line,
+                why: NotNumber::NoDigits,
+            } => write!(f, "{file} line {line}: a word is no number"),
+            Problem::NotNumber {
+                line,
+                why: NotNumber::TooLarge,
+            } => write!(f, "{file} line {line}: a number is above 4294967295"),
             Problem::NotTwo { line } => write!(
                 f,
                 "{file} line {line}: not two numbers, a plot and an entry"
@@ -53,17 +56,9 @@ impl fmt::Display for Fault {
     }
 }
 
-// The number that a word of decimal digits stands for.
+// The number that a word on that line stands for.
 fn number(word: &str, line: usize) -> Result<u32, Problem> {
-    for byte in word.bytes() {
-        if !byte.is_ascii_digit() {
-            return Err(Problem::NoNumber { line });
-        }
-    }
-    match word.parse::<u32>() {
-        Ok(number) => Ok(number),
-        Err(_) => Err(Problem::TooLarge { line }),
-    }
+    read_number(word).map_err(|why| Problem::NotNumber { line, why })
 }
 
 // The entries of a ground: decimal numbers separated by white space.

@@ -1,38 +1,13 @@
 // Examples of texts that are read, and of faults and the lines that tell them.
 use crate::lines::Ground;
 use crate::reading::{Fault, Problem, read_burials, read_entries};
-use std::alloc::Global;
-use std::process::Abort;
 use std::test::Fail;
+use texts::number::NotNumber;
+use texts::unread::Unread;
 
-fn check_entries_fault(
-    rt: &impl Abort,
-    heap: Global,
-    text: &str,
-    expected: Problem,
-) -> Result<(), Fail> {
-    match read_entries(heap, text) {
-        Ok(_) => Err(Fail::new("read")),
-        Err(problem) => {
-            assert_eq!(rt; problem, expected);
-            Ok(())
-        },
-    }
-}
-
-fn check_burials_fault(
-    rt: &impl Abort,
-    heap: Global,
-    text: &str,
-    expected: Problem,
-) -> Result<(), Fail> {
-    match read_burials(heap, text) {
-        Ok(_) => Err(Fail::new("read")),
-        Err(problem) => {
-            assert_eq!(rt; problem, expected);
-            Ok(())
-        },
-    }
+// The problem of a word on that line that is no number.
+fn not_number(line: usize, why: NotNumber) -> Problem {
+    Problem::NotNumber { line, why }
 }
 
 #[test]
@@ -48,50 +23,44 @@ fn entries_are_read(rt: HostRuntime) -> Result<(), Fail> {
 }
 
 #[test]
-fn entries_are_refused(rt: HostRuntime) -> Result<(), Fail> {
-    check_entries_fault(&rt, rt.alloc(), "1 2\n3 x", Problem::NoNumber { line: 2 })?;
-    check_entries_fault(&rt, rt.alloc(), "1 -2", Problem::NoNumber { line: 1 })?;
-    check_entries_fault(&rt, rt.alloc(), "+1", Problem::NoNumber { line: 1 })?;
-    check_entries_fault(
-        &rt,
-        rt.alloc(),
-        "1\n\n4294967296",
-        Problem::TooLarge { line: 3 },
-    )
+fn entries_are_refused(rt: HostRuntime) {
+    for (text, problem) in [
+        ("1 2\n3 x", not_number(2, NotNumber::NoDigits)),
+        ("1 -2", not_number(1, NotNumber::NoDigits)),
+        ("+1", not_number(1, NotNumber::NoDigits)),
+        ("1\n\n4294967296", not_number(3, NotNumber::TooLarge)),
+    ] {
+        let refused = read_entries(rt.alloc(), text).err();
+        assert_eq!(rt; refused, Some(problem), "at {text}");
+    }
 }
 
 #[test]
-fn burials_are_refused(rt: HostRuntime) -> Result<(), Fail> {
-    check_burials_fault(&rt, rt.alloc(), "1 2\n3\n", Problem::NotTwo { line: 2 })?;
-    check_burials_fault(&rt, rt.alloc(), "1 2 3", Problem::NotTwo { line: 1 })?;
-    check_burials_fault(&rt, rt.alloc(), "1 2\n\n3 4", Problem::NotTwo { line: 2 })?;
-    check_burials_fault(&rt, rt.alloc(), "1 2\n3 y", Problem::NoNumber { line: 2 })?;
-    check_burials_fault(
-        &rt,
-        rt.alloc(),
-        "4294967296 1",
-        Problem::TooLarge { line: 1 },
-    )
+fn burials_are_refused(rt: HostRuntime) {
+    for (text, problem) in [
+        ("1 2\n3\n", Problem::NotTwo { line: 2 }),
+        ("1 2 3", Problem::NotTwo { line: 1 }),
+        ("1 2\n\n3 4", Problem::NotTwo { line: 2 }),
+        ("1 2\n3 y", not_number(2, NotNumber::NoDigits)),
+        ("4294967296 1", not_number(1, NotNumber::TooLarge)),
+    ] {
+        let refused = read_burials(rt.alloc(), text).err();
+        assert_eq!(rt; refused, Some(problem), "at {text}");
+    }
 }
 
 #[test]
 fn a_fault_is_one_line(rt: HostRuntime) -> Result<(), Fail> {
     let file = "old.txt";
-    let missing = Fault {
-        file,
-        problem: Problem::Missing,
-    };
-    assert_eq!(rt;
-        missing.to_string(rt.alloc())?.as_str(),
-        "old.txt is missing"
-    );
-    let word = Fault {
-        file,
-        problem: Problem::NoNumber { line: 3 },
-    };
-    assert_eq!(rt;
-        word.to_string(rt.alloc())?.as_str(),
-        "old.txt line 3: a word is no number"
-    );
+    for (problem, line) in [
+        (Problem::Unread(Unread::Missing), "old.txt is missing"),
+        (
+            not_number(3, NotNumber::NoDigits),
+            "old.txt line 3: a word is no number",
+        ),
+    ] {
+        let fault = Fault { file, problem };
+        assert_eq!(rt; fault.to_string(rt.alloc())?.as_str(), line);
+    }
     Ok(())
 }
