@@ -1,5 +1,5 @@
 -- One burial more, and the end of all burials.
-use Rattle.std.proofs.Common.{◌≡◌, ℕ, ◌+◌, ◌<◌, ◌≤◌, List, [], ◌∷◌, ◌++◌, length, get_or, drop, Option, sym, ap, ◌∙◌}
+use Rattle.std.proofs.Common.{◌≡◌, ℕ, ◌+◌, ◌<◌, ◌≤◌, List, [], ◌∷◌, ◌++◌, length, get_or, drop, Option, sym, ◌∙◌}
 use Rattle.std.proofs.lemmas.List.{drop_more, drop_all, append_assoc, append-nil}
 use Rattle.register.specs.Plots.{entry_at, with_entry}
 use Rattle.grounds.specs.declared.burials.Burial.{Burial}
@@ -12,19 +12,14 @@ none = record { plot = 0; entry = 0 }
 -- burial i is recorded where the plots are ps, which makes them qs
 module _ (bs : List Burial) (i : ℕ) (ps qs : List ℕ) (h : i < length bs) (e : qs ≡ with_entry ps (get_or bs i none).plot (get_or bs i none).entry) where
   pub found_turn : (found found' all : List (Option ℕ)) (r : Option ℕ) → found' ≡ found ++ r ∷ [] → r ≡ entry_at ps (get_or bs i none).plot → found ++ found_by ps (drop i bs) ≡ all → found' ++ found_by qs (drop (i + 1) bs) ≡ all
-  found_turn found found' all r f g inv =
-      ap (λ l. l ++ found_by qs (drop (i + 1) bs)) f
-      ∙ (append_assoc found (r ∷ []) (found_by qs (drop (i + 1) bs))
-      ∙ (ap (λ l. found ++ (r ∷ found_by l (drop (i + 1) bs))) e
-      ∙ (ap (λ x. found ++ (x ∷ found_by (with_entry ps (get_or bs i none).plot (get_or bs i none).entry) (drop (i + 1) bs))) g
-      ∙ (ap (λ l. found ++ found_by ps l) (sym (drop_more bs i none h)) ∙ inv))))
+  found_turn found found' all r f g inv = rw (f, append_assoc, g, e) (rw (drop_more bs i none h) at inv)
 
   pub plots_turn : (all : List ℕ) → buried ps (drop i bs) ≡ all → buried qs (drop (i + 1) bs) ≡ all
-  plots_turn all inv = ap (λ l. buried l (drop (i + 1) bs)) e ∙ (ap (buried ps) (sym (drop_more bs i none h)) ∙ inv)
+  plots_turn all inv = rw e (rw (drop_more bs i none h) at inv)
 
 module _ (bs : List Burial) (i : ℕ) (ps : List ℕ) (h : length bs ≤ i) where
   pub found_end : (found all : List (Option ℕ)) → found ++ found_by ps (drop i bs) ≡ all → found ≡ all
-  found_end found all inv = sym (append-nil found) ∙ (ap (λ l. found ++ found_by ps l) (sym (drop_all i bs h)) ∙ inv)
+  found_end found all inv = sym (append-nil found) ∙ rw (drop_all i bs h) at inv
 
   pub plots_end : (all : List ℕ) → buried ps (drop i bs) ≡ all → ps ≡ all
-  plots_end all inv = ap (buried ps) (sym (drop_all i bs h)) ∙ inv
+  plots_end all inv = rw (drop_all i bs h) at inv
