@@ -16,7 +16,6 @@ use loading::load::load;
 use policy::table::Table;
 use reading::{Fault, Problem, read_plots, read_requests};
 use std::fs;
-use std::io::ErrorKind;
 
 // What the two texts tell.
 #[derive(Drop)]
@@ -27,39 +26,24 @@ struct Input {
 
 // The text of a file.
 fn read_text(rt: &HostRuntime, file: &'static str) -> Result<String, Fault> {
-    match fs::read_to_string(rt, file) {
-        Ok(text) => Ok(text),
-        Err(error) => match error.kind() {
-            ErrorKind::NotFound => Err(Fault {
-                file,
-                problem: Problem::Missing,
-            }),
-            _ => Err(Fault {
-                file,
-                problem: Problem::NoText,
-            }),
-        },
-    }
+    fs::read_to_string(rt, file).map_err(|error| Fault {
+        file,
+        problem: Problem::from(error),
+    })
 }
 
 // The entries of the plots.
 fn read_entries(rt: &HostRuntime) -> Result<Vec<u32>, Fault> {
     let file = "plots.txt";
     let text = read_text(rt, file)?;
-    match read_plots(rt.alloc(), text.as_str()) {
-        Ok(entries) => Ok(entries),
-        Err(problem) => Err(Fault { file, problem }),
-    }
+    read_plots(rt.alloc(), text.as_str()).map_err(|problem| Fault { file, problem })
 }
 
 // The requests, whose calls are named as in the book.
 fn read_lines(rt: &HostRuntime, book: &Book) -> Result<Vec<Line>, Fault> {
     let file = "calls.txt";
     let text = read_text(rt, file)?;
-    match read_requests(rt.alloc(), book, text.as_str()) {
-        Ok(lines) => Ok(lines),
-        Err(problem) => Err(Fault { file, problem }),
-    }
+    read_requests(rt.alloc(), book, text.as_str()).map_err(|problem| Fault { file, problem })
 }
 
 // The entries and the requests.

@@ -3,20 +3,29 @@ use crate::asked::{Asked, Line};
 use book::table::Book;
 use std::alloc::{AllocError, AllocFailed, Global};
 use std::fmt;
+use std::io;
 use std::str::SplitWhitespace;
 use tables::name::Name;
+use texts::number::{NotNumber, read_number};
+use texts::unread::Unread;
 
-// A number that no call has.
+// A number that no call has: the run itself says, of a number, that there is no such call, and
+// says it only after that it is stopped, so an Option would come to this number at the request.
 const NO_CALL: u32 = u32::MAX;
 
 // What is wrong with a text; lines are counted from 1.
-#[derive(Drop, Debug, PartialEq)]
+#[derive(Clone, Copy, Debug, PartialEq, Eq)]
 pub enum Problem {
-    Missing,
-    NoText,
+    Unread(Unread),
     NoNumber { line: usize },
     NoRequest { line: usize },
     NoMemory,
+}
+
+impl From<io::Error> for Problem {
+    fn from(error: io::Error) -> Problem {
+        Problem::Unread(Unread::from(error))
+    }
 }
 
 impl From<AllocError> for Problem {
@@ -32,7 +41,7 @@ impl<T: Drop> From<AllocFailed<T>> for Problem {
 }
 
 // A fault and the file that has it.
-#[derive(Drop)]
+#[derive(Clone, Copy, Debug, PartialEq, Eq)]
 pub struct Fault {
     pub file: &'static str,
     pub problem: Problem,
@@ -42,9 +51,9 @@ pub struct Fault {
 impl fmt::Display for Fault {
     fn fmt<W: fmt::Write>(&self, f: &mut fmt::Formatter<W>) -> fmt::Result {
         let file = self.file;
-        match &self.problem {
-            Problem::Missing => write!(f, "{file} missing"),
-            Problem::NoText => write!(f, "{file}: no text"),
+        match self.problem {
+            Problem::Unread(Unread::Missing) => write!(f, "{file} missing"),
+            Problem::Unread(Unread::NoText) => write!(f, "{file}: no text"),
             Problem::NoNumber { line } => write!(f, "{file} line {line}: no number"),
             Problem::NoRequest { line } => write!(f, "{file} line {line}: no request"),
             Problem::NoMemory => write!(f, "{file}: no memory"),
@@ -52,25 +61,9 @@ impl fmt::Display for Fault {
     }
 }
 
-// Whether a word is written in decimal digits alone.
-fn is_digits(word: &str) -> bool {
-    for byte in word.bytes() {
-        if !byte.is_ascii_digit() {
-            return false;
-        }
-    }
-    true
-}
-
-// The number that a word of decimal digits stands for, up to 4294967295.
-fn read_number(word: &str, line: usize) -> Result<u32, Problem> {
-    if !is_digits(word) {
-        return Err(Problem::NoNumber { line });
-    }
-    match word.parse::<u32>() {
-        Ok(number) => Ok(number),
-        Err(_) => Err(Problem::NoNumber { line }),
-    }
+// The number that a word on that line stands for.
+fn number(word: &str, line: usize) -> Result<u32, Problem> {
+    read_number(word).map_err(|_| Problem::NoNumber { line })
 }
 
 // Adds the numbers that words stand for.
@@ -80,7 +73,7 @@ fn add_numbers(
     line: usize,
 ) -> Result<(), Problem> {
     for word in words {
-        numbers.push(read_number(word, line)?)?;
+        numbers.push(number(word, line)?)?;
     }
     Ok(())
 }
@@ -100,13 +93,8 @@ pub(crate) fn read_plots(heap: Global, text: &str) -> Result<Vec<u32>, Problem> 
 
 // The name that a word is, filled with spaces; none where it has more than eight letters.
 fn read_name(word: &str) -> Option<Name> {
-    let bytes = word.as_bytes();
-    let count = bytes.len();
     let mut letters = [b' '; 8];
-    if count > letters.len() {
-        return None;
-    }
-    letters[0..count].copy_from_slice(bytes);
+    letters.get_mut(..word.len())?.copy_from_slice(word.as_bytes());
     Some(Name { letters })
 }
 
@@ -119,12 +107,10 @@ fn find_call(book: &Book, word: &str) -> Option<u32> {
 
 // The number of the call that a word tells, by its number or by its name.
 fn read_call(book: &Book, word: &str, line: usize) -> Result<u32, Problem> {
-    if is_digits(word) {
-        return read_number(word, line);
-    }
-    match find_call(book, word) {
-        Some(number) => Ok(number),
-        None => Ok(NO_CALL),
+    match read_number(word) {
+        Ok(number) => Ok(number),
+        Err(NotNumber::TooLarge) => Err(Problem::NoNumber { line }),
+        Err(NotNumber::NoDigits) => Ok(find_call(book, word).unwrap_or(NO_CALL)),
     }
 }
 
@@ -143,7 +129,7 @@ fn read_request(heap: Global, book: &Book, text: &str, line: usize) -> Result<As
             add_numbers(&mut values, words, line)?;
             Ok(Asked::Call { number, values })
         }
-        "cell" if words.next().is_none() => Ok(Asked::Cell(read_number(word, line)?)),
+        "cell" if words.next().is_none() => Ok(Asked::Cell(number(word, line)?)),
         _ => Err(Problem::NoRequest { line }),
     }
 }
