@@ -1,5 +1,5 @@
 -- One request more, and the end of all requests.
-use Rattle.std.proofs.Common.{◌≡◌, ℕ, ◌+◌, ◌<◌, ◌≤◌, List, [], ◌∷◌, ◌++◌, length, get_or, drop, sym, ap, ◌∙◌}
+use Rattle.std.proofs.Common.{◌≡◌, ℕ, ◌+◌, ◌<◌, ◌≤◌, List, [], ◌∷◌, ◌++◌, length, get_or, drop, sym, ◌∙◌}
 use Rattle.rehearse.specs.Rehearsals.{asked_of, answers_of, after_all}
 use Rattle.rehearse.specs.declared.asked.Line.{Line}
 use Rattle.run.specs.Calls.{St, Ended}

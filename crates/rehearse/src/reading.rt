@@ -2,9 +2,8 @@
 use crate::asked::{Asked, Line};
 use book::table::Book;
 use std::alloc::{AllocError, AllocFailed, Global};
-use std::fmt;
-use std::io;
 use std::str::SplitWhitespace;
+use std::{fmt, io};
 use tables::name::Name;
 use texts::number::{NotNumber, read_number};
 use texts::unread::Unread;
@@ -94,7 +93,9 @@ pub(crate) fn read_plots(heap: Global, text: &str) -> Result<Vec<u32>, Problem> 
 // The name that a word is, filled with spaces; none where it has more than eight letters.
 fn read_name(word: &str) -> Option<Name> {
     let mut letters = [b' '; 8];
-    letters.get_mut(..word.len())?.copy_from_slice(word.as_bytes());
+    letters
+        .get_mut(..word.len())?
+        .copy_from_slice(word.as_bytes());
     Some(Name { letters })
 }
 

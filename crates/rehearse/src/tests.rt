@@ -3,36 +3,9 @@ use crate::asked::{Asked, Line};
 use crate::lines::Plots;
 use crate::reading::{Fault, Problem, read_plots, read_requests};
 use book::table::Book;
-use std::alloc::Global;
 use std::process::Abort;
 use std::test::Fail;
-
-// The line of the fault in the text of the plots.
-fn check_plots_fault(rt: &impl Abort, heap: Global, text: &str, line: usize) -> Result<(), Fail> {
-    match read_plots(heap, text) {
-        Ok(_) => Err(Fail::new("read")),
-        Err(problem) => {
-            assert_eq!(rt; problem, Problem::NoNumber { line });
-            Ok(())
-        },
-    }
-}
-
-// The fault in the text of the calls.
-fn check_calls_fault(
-    rt: &impl Abort,
-    heap: Global,
-    text: &str,
-    expected: Problem,
-) -> Result<(), Fail> {
-    match read_requests(heap, &Book::empty(), text) {
-        Ok(_) => Err(Fail::new("read")),
-        Err(problem) => {
-            assert_eq!(rt; problem, expected);
-            Ok(())
-        },
-    }
-}
+use texts::unread::Unread;
 
 #[test]
 fn plots_are_read(rt: HostRuntime) -> Result<(), Fail> {
@@ -46,9 +19,11 @@ fn plots_are_read(rt: HostRuntime) -> Result<(), Fail> {
         plots.to_string(rt.alloc())?.as_str(),
         "plots 1 2 4294967295 7"
     );
-    check_plots_fault(&rt, rt.alloc(), "1 2\n3 x", 2)?;
-    check_plots_fault(&rt, rt.alloc(), "+1", 1)?;
-    check_plots_fault(&rt, rt.alloc(), "1\n\n4294967296", 3)
+    for (text, line) in [("1 2\n3 x", 2), ("+1", 1), ("1\n\n4294967296", 3)] {
+        let refused = read_plots(rt.alloc(), text).err();
+        assert_eq!(rt; refused, Some(Problem::NoNumber { line }), "at {text}");
+    }
+    Ok(())
 }
 
 // The one request of a line.
@@ -89,47 +64,36 @@ fn requests_are_read(rt: HostRuntime) -> Result<(), Fail> {
 }
 
 #[test]
-fn requests_are_refused(rt: HostRuntime) -> Result<(), Fail> {
-    check_calls_fault(
-        &rt,
-        rt.alloc(),
-        "cell 0\ncall",
-        Problem::NoRequest { line: 2 },
-    )?;
-    check_calls_fault(&rt, rt.alloc(), "look 1", Problem::NoRequest { line: 1 })?;
-    check_calls_fault(&rt, rt.alloc(), "cell 1 2", Problem::NoRequest { line: 1 })?;
-    check_calls_fault(&rt, rt.alloc(), "\ncell x", Problem::NoNumber { line: 2 })?;
-    check_calls_fault(
-        &rt,
-        rt.alloc(),
-        "call show -1",
-        Problem::NoNumber { line: 1 },
-    )?;
-    check_calls_fault(
-        &rt,
-        rt.alloc(),
-        "call 4294967296",
-        Problem::NoNumber { line: 1 },
-    )
+fn requests_are_refused(rt: HostRuntime) {
+    for (text, problem) in [
+        ("cell 0\ncall", Problem::NoRequest { line: 2 }),
+        ("look 1", Problem::NoRequest { line: 1 }),
+        ("cell 1 2", Problem::NoRequest { line: 1 }),
+        ("\ncell x", Problem::NoNumber { line: 2 }),
+        ("call show -1", Problem::NoNumber { line: 1 }),
+        ("call 4294967296", Problem::NoNumber { line: 1 }),
+    ] {
+        let refused = read_requests(rt.alloc(), &Book::empty(), text).err();
+        assert_eq!(rt; refused, Some(problem), "at {text}");
+    }
 }
 
 #[test]
 fn a_fault_is_one_line(rt: HostRuntime) -> Result<(), Fail> {
-    let missing = Fault {
-        file: "plots.txt",
-        problem: Problem::Missing,
-    };
-    assert_eq!(rt;
-        missing.to_string(rt.alloc())?.as_str(),
-        "plots.txt missing"
-    );
-    let request = Fault {
-        file: "calls.txt",
-        problem: Problem::NoRequest { line: 2 },
-    };
-    assert_eq!(rt;
-        request.to_string(rt.alloc())?.as_str(),
-        "calls.txt line 2: no request"
-    );
+    for (file, problem, line) in [
+        (
+            "plots.txt",
+            Problem::Unread(Unread::Missing),
+            "plots.txt missing",
+        ),
+        (
+            "calls.txt",
+            Problem::NoRequest { line: 2 },
+            "calls.txt line 2: no request",
+        ),
+    ] {
+        let fault = Fault { file, problem };
+        assert_eq!(rt; fault.to_string(rt.alloc())?.as_str(), line);
+    }
     Ok(())
 }
