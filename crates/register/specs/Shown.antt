@@ -1,9 +1,8 @@
 -- What each register shows of its meaning: it is short, its entries fit, and what stays beside it stays over many calls.
-use Rattle.std.specs.Prelude.{ℕ, ◌-◌, ◌<◌, ◌≤◌, List, ◌++◌, length, take, refl}
-use Rattle.std.proofs.Common.{◌∙◌, ⊎_elim, arith, length-take}
+use Rattle.std.specs.Prelude.{ℕ, ◌-◌, List, ◌++◌, length, take, refl}
+use Rattle.std.proofs.Common.{◌∙◌, arith, length-take}
 use Rattle.std.specs.Borrow.{MutBor}
-use Rattle.std.proofs.lemmas.List.{get_or-take, get_or_past, get_or_append_left, get_or-append_right}
-use Rattle.std.proofs.lemmas.Bool.{cases_lt}
+use Rattle.std.proofs.lemmas.Grind.{common_steps}
 use Rattle.register.specs.Plots.{most, cut, Fit, Short}
 use Rattle.register.specs.Grounds.{SameLoan, SameSeam}
 
@@ -11,21 +10,17 @@ use Rattle.register.specs.Grounds.{SameLoan, SameSeam}
 pub cut_short : (numbers : List ℕ) → Short (cut numbers)
 cut_short numbers = simp length-take (omega arith)
 
+-- the first n of entries that fit
+take_fit : (n : ℕ) (xs : List ℕ) → Fit xs → Fit (take n xs)
+take_fit n xs f p = let h = f p in grind (arith, common_steps)
+
 -- the cut of entries that fit
 pub cut_fit : (numbers : List ℕ) → Fit numbers → Fit (cut numbers)
-cut_fit numbers f p =
-    ⊎_elim {A = p < most} {B = most ≤ p}
-    (λ h. rw (get_or-take most numbers p 0 h) (f p))
-    (λ h. let l : length (take most numbers) ≤ p = simp length-take (omega arith) in rw (get_or_past (take most numbers) p 0 l) (omega arith))
-    (cases_lt p most)
+cut_fit numbers f = take_fit most numbers f
 
 -- two lists of entries that fit, one behind the other
 both_fit : (xs ys : List ℕ) → Fit xs → Fit ys → Fit (xs ++ ys)
-both_fit xs ys f g p =
-    ⊎_elim {A = p < length xs} {B = length xs ≤ p}
-    (λ h. rw (get_or_append_left xs ys 0 p h) (f p))
-    (λ h. rw (get_or-append_right xs ys (length xs) p 0 refl h) (g (p - length xs)))
-    (cases_lt p (length xs))
+both_fit xs ys f g p = let h = f p in let k = g (p - length xs) in grind (arith, common_steps)
 
 -- two grounds of entries that fit, joined
 pub joined_fit : (xs ys : List ℕ) → Fit xs → Fit ys → Fit (cut (xs ++ ys))
