@@ -26,7 +26,7 @@ impl<T: Drop> From<AllocFailed<T>> for Problem {
     }
 }
 
-// A fault and the file that has it.
+// A fault and the file that has it. Each program tells its faults in words of its own.
 #[derive(Clone, Copy, Debug, PartialEq, Eq)]
 pub struct Fault {
     pub file: &'static str,
@@ -62,6 +62,7 @@ fn number(word: &str, line: usize) -> Result<u32, Problem> {
 }
 
 // The entries of a ground: decimal numbers separated by white space.
+// A reader shared with `rehearse` could promise no equation: no word lists what split_whitespace gives.
 pub(crate) fn read_entries(heap: Global, text: &str) -> Result<Vec<u32>, Problem> {
     let mut entries = Vec::new(heap);
     for (above, line) in text.lines().enumerate() {

@@ -13,14 +13,14 @@ use run::run::Run;
 use std::alloc::{AllocError, Global};
 
 // A script call by its number, with its values, or a question about a cell.
-#[derive(Drop)]
+#[derive(Debug, Drop, PartialEq, Eq)]
 pub enum Asked {
     Call { number: u32, values: Vec<u32> },
     Cell(u32),
 }
 
 // A request as it was read: its line, and what it asks.
-#[derive(Drop)]
+#[derive(Debug, Drop, PartialEq, Eq)]
 pub struct Line {
     pub text: String,
     pub asked: Asked,

@@ -39,7 +39,7 @@ impl<T: Drop> From<AllocFailed<T>> for Problem {
     }
 }
 
-// A fault and the file that has it.
+// A fault and the file that has it. Each program tells its faults in words of its own.
 #[derive(Clone, Copy, Debug, PartialEq, Eq)]
 pub struct Fault {
     pub file: &'static str,
@@ -78,6 +78,7 @@ fn add_numbers(
 }
 
 // The entries of the plots: decimal numbers with white space between them.
+// A reader shared with `grounds` could promise no equation: no word lists what split_whitespace gives.
 pub(crate) fn read_plots(heap: Global, text: &str) -> Result<Vec<u32>, Problem> {
     let mut entries = Vec::new(heap);
     for (above, line) in text.lines().enumerate() {
