@@ -11,9 +11,7 @@ pub fn found(read: io::Result<Vec<u8>>) -> io::Result<Option<Vec<u8>>>
 {
     match read {
         Ok(file) => Ok(Some(file)),
-        Err(error) => match error.kind() {
-            ErrorKind::NotFound => Ok(None),
-            _ => Err(error),
-        },
+        Err(error) if error.kind() == ErrorKind::NotFound => Ok(None),
+        Err(error) => Err(error),
     }
 }

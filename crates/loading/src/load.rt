@@ -24,18 +24,9 @@ pub fn load(book: Option<&[u8]>, policy: Option<&[u8]>, table: &mut Table) -> Re
     ensures labels { label_places table.new ≡ name_places (policy_format (book_of table.new.book)) label_name (policy_of table.new) }
 {
     *table = Table::empty();
-    let Some(book_file) = book else {
-        return Err(Fault::BookMissing);
-    };
+    let book_file = book.ok_or(Fault::BookMissing)?;
     let mut read = Book::empty();
-    if let Err(refused) = read_book(book_file, &mut read) {
-        return Err(Fault::BookRefused(refused));
-    }
-    let Some(policy_file) = policy else {
-        return Err(Fault::PolicyMissing);
-    };
-    match read_policy(policy_file, &read, table) {
-        Ok(()) => Ok(()),
-        Err(refused) => Err(Fault::PolicyRefused(refused)),
-    }
+    read_book(book_file, &mut read).map_err(Fault::BookRefused)?;
+    let policy_file = policy.ok_or(Fault::PolicyMissing)?;
+    read_policy(policy_file, &read, table).map_err(Fault::PolicyRefused)
 }
