@@ -1,4 +1,5 @@
 // The lines that tell a book, as values.
+use book::marks::has;
 use book::table::{Act, Call, Condition, Operation};
 use std::fmt;
 
@@ -34,26 +35,18 @@ struct Taken<'a> {
 
 impl Taken<'_> {
     fn has_answer(&self) -> bool {
-        for mark in self.marks {
-            if *mark == ANSWER {
-                return true;
-            }
-        }
-        false
+        has(self.marks, ANSWER)
     }
 }
 
 impl fmt::Display for Taken<'_> {
     fn fmt<W: fmt::Write>(&self, f: &mut fmt::Formatter<W>) -> fmt::Result {
-        let mut listed = false;
-        for mark in self.marks {
-            if *mark != ANSWER {
-                if !listed {
-                    write!(f, "marks")?;
-                }
-                write!(f, " {mark}")?;
-                listed = true;
-            }
+        let listed = self.marks.iter().any(|mark| *mark != ANSWER);
+        if listed {
+            write!(f, "marks")?;
+        }
+        for mark in self.marks.iter().filter(|mark| **mark != ANSWER) {
+            write!(f, " {mark}")?;
         }
         match (listed, self.has_answer()) {
             (true, true) => write!(f, " and the answer"),

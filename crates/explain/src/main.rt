@@ -7,13 +7,13 @@ mod policy_lines;
 mod tests;
 
 use book::table::{Book, Call};
-use book_file::reading::read_book;
 use book_lines::{ActLine, AfterLine, BeforeLine, CallLine, OperationLine};
+use loading::fault::Fault;
+use loading::found::found;
+use loading::load::load;
 use policy::table::Table;
-use policy_file::reading::read_policy;
 use policy_lines::{CellLine, ClauseLine, GroupLine};
 use std::fs;
-use std::io::ErrorKind;
 
 // The parts of a call, in the order in which they run.
 fn print_parts(rt: &HostRuntime, book: &Book, call: &Call) -> anyhow::Result<()> {
@@ -85,49 +85,21 @@ fn print_policy(rt: &HostRuntime, table: &Table) -> anyhow::Result<()> {
     Ok(())
 }
 
-// The bytes of a file, or none where it is missing.
-fn read_file(rt: &HostRuntime, name: &str) -> anyhow::Result<Option<Vec<u8>>> {
-    match fs::read(rt, name) {
-        Ok(file) => Ok(Some(file)),
-        Err(error) => match error.kind() {
-            ErrorKind::NotFound => Ok(None),
-            _ => Err(error.into()),
-        },
-    }
-}
-
-// Reads the policy against the book and prints both, or the policy's fault alone.
-fn explain(rt: &HostRuntime, book: &Book) -> anyhow::Result<()> {
-    let Some(file) = read_file(rt, "policy.bin")? else {
-        println!(rt; "policy missing")?;
-        return Ok(());
-    };
-    let mut table = Table::empty();
-    match read_policy(file.as_slice(), book, &mut table) {
-        Ok(()) => {
-            print_book(rt, table.book())?;
-            print_policy(rt, &table)
-        }
-        Err(refused) => {
-            println!(rt; "policy {refused}")?;
-            Ok(())
-        }
-    }
-}
-
+// Prints both files, or the one fault; the policy is opened only where the book is read.
 fn run(rt: &HostRuntime) -> anyhow::Result<()> {
-    let Some(file) = read_file(rt, "book.bin")? else {
-        println!(rt; "book missing")?;
-        return Ok(());
-    };
-    let mut book = Book::empty();
-    match read_book(file.as_slice(), &mut book) {
-        Ok(()) => explain(rt, &book),
-        Err(refused) => {
-            println!(rt; "book {refused}")?;
-            Ok(())
-        }
+    let book = found(fs::read(rt, "book.bin"))?;
+    let mut table = Table::empty();
+    let mut loaded = load(book.as_deref(), None, &mut table);
+    if let Err(Fault::PolicyMissing) = loaded {
+        let policy = found(fs::read(rt, "policy.bin"))?;
+        loaded = load(book.as_deref(), policy.as_deref(), &mut table);
     }
+    if let Err(fault) = loaded {
+        println!(rt; "{fault}")?;
+        return Ok(());
+    }
+    print_book(rt, table.book())?;
+    print_policy(rt, &table)
 }
 
 fn main(rt: HostRuntime) -> anyhow::Result<()> {

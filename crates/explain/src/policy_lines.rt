@@ -1,7 +1,7 @@
 // The lines that tell a policy, as values.
 use book::table::{Book, OPERATIONS};
 use policy::table::{Action, Clause, Comparison, Term, When, Write};
-use std::fmt;
+use std::{array, fmt};
 
 // The mark that the register's answer fills.
 const ANSWER: u8 = 255;
@@ -15,22 +15,21 @@ struct Flagged<'a> {
 
 impl fmt::Display for Flagged<'_> {
     fn fmt<W: fmt::Write>(&self, f: &mut fmt::Formatter<W>) -> fmt::Result {
-        let mut listed = false;
-        for (number, flag) in self.flags.iter().enumerate() {
-            if *flag {
-                if let Some(operation) = self.book.operation(number) {
-                    let name = operation.name();
-                    let comma = if listed { ", " } else { "" };
-                    write!(f, "{comma}{name}")?;
-                    listed = true;
-                }
-            }
+        let mut names = self
+            .flags
+            .iter()
+            .enumerate()
+            .filter(|(_, flag)| **flag)
+            .filter_map(|(number, _)| self.book.operation(number))
+            .map(|operation| operation.name());
+        let Some(first) = names.next() else {
+            return write!(f, "no operation");
+        };
+        write!(f, "{first}")?;
+        for name in names {
+            write!(f, ", {name}")?;
         }
-        if listed {
-            Ok(())
-        } else {
-            write!(f, "no operation")
-        }
+        Ok(())
     }
 }
 
@@ -78,13 +77,8 @@ impl fmt::Display for Told {
     fn fmt<W: fmt::Write>(&self, f: &mut fmt::Formatter<W>) -> fmt::Result {
         match self.term {
             Term::Number(number) => write!(f, "{number}"),
-            Term::Field(mark) => {
-                if mark == ANSWER {
-                    write!(f, "the answer")
-                } else {
-                    write!(f, "field {mark}")
-                }
-            }
+            Term::Field(ANSWER) => write!(f, "the answer"),
+            Term::Field(mark) => write!(f, "field {mark}"),
             Term::Cell(number) => write!(f, "cell {number}"),
         }
     }
@@ -144,23 +138,13 @@ pub(crate) struct ClauseLine<'a> {
     pub(crate) clause: &'a Clause,
 }
 
-impl ClauseLine<'_> {
-    fn flags(&self) -> [bool; OPERATIONS] {
-        let mut flags = [false; OPERATIONS];
-        for number in 0..OPERATIONS {
-            flags[number] = self.clause.applies_to(number);
-        }
-        flags
-    }
-}
-
 impl fmt::Display for ClauseLine<'_> {
     fn fmt<W: fmt::Write>(&self, f: &mut fmt::Formatter<W>) -> fmt::Result {
         let number = self.number;
         let label = self.clause.label();
         let operations = Flagged {
             book: self.book,
-            flags: self.flags(),
+            flags: array::from_fn(|number| self.clause.applies_to(number)),
         };
         write!(f, "clause {number}: {label} on {operations}: ")?;
         for (place, when) in self.clause.whens().iter().enumerate() {
