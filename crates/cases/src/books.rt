@@ -1,41 +1,27 @@
 // Files read as books: one table of refusals, the counts, the lengths, and the example cut short and changed.
-use crate::files::{BOOK, Case, refused, repeated};
+use crate::files::{BOOK, check_all, check_count, refused};
 use book::table::Book;
 use book_file::reading::read_book;
 use format::refusal::Refused;
 use std::process::Abort;
 use std::test::Fail;
 
-// A refused file leaves no operation and no call behind, whatever the book held before.
-fn check_refused(rt: &impl Abort, file: &[u8], number: u8, offset: u32) -> Result<(), Fail> {
+// Reads the file into a book that holds the example; a refused one leaves no operation and no call.
+fn read_over(rt: &impl Abort, file: &[u8]) -> Result<(), Refused> {
     let mut book = Book::empty();
     assert!(rt; read_book(BOOK, &mut book).is_ok());
-    match read_book(file, &mut book) {
-        Ok(()) => Err(Fail::new("read")),
-        Err(
-            Refused {
-                refusal,
-                offset: at,
-            },
-        ) => {
-            assert_eq!(rt; (refusal.number(), at), (number, offset));
-            assert_eq!(rt; (book.operation_count(), book.call_count()), (0, 0));
-            Ok(())
-        }
+    let answer = read_book(file, &mut book);
+    if answer.is_err() {
+        assert_eq!(rt; (book.operation_count(), book.call_count()), (0, 0));
     }
-}
-
-fn check_all(rt: &impl Abort, cases: &[Case]) -> Result<(), Fail> {
-    for case in cases {
-        check_refused(rt, case.file, case.number, case.offset)?;
-    }
-    Ok(())
+    answer
 }
 
 #[test]
-fn commands_are_refused(rt: HostRuntime) -> Result<(), Fail> {
+fn commands_are_refused(rt: HostRuntime) {
     check_all(
         &rt,
+        read_over,
         &[
             refused(b"\x00", 1, 0),
             refused(b"\x80reg.put \x13\x01", 1, 9),
@@ -50,13 +36,14 @@ fn commands_are_refused(rt: HostRuntime) -> Result<(), Fail> {
             refused(b"\x80reg.put \x81bury    \x20\x00\x00", 3, 18),
             refused(b"\x12\x01", 3, 0),
         ],
-    )
+    );
 }
 
 #[test]
-fn operands_are_refused(rt: HostRuntime) -> Result<(), Fail> {
+fn operands_are_refused(rt: HostRuntime) {
     check_all(
         &rt,
+        read_over,
         &[
             refused(b"\x80reg\x1fput ", 5, 0),
             refused(b"\x81bury   \x7f", 5, 0),
@@ -79,13 +66,14 @@ fn operands_are_refused(rt: HostRuntime) -> Result<(), Fail> {
             refused(b"\x80a       \x10\x07\x10\x07", 7, 11),
             refused(b"\x81a       \x10\x07\x10\x07", 7, 11),
         ],
-    )
+    );
 }
 
 #[test]
-fn missing_marks_are_refused(rt: HostRuntime) -> Result<(), Fail> {
+fn missing_marks_are_refused(rt: HostRuntime) {
     check_all(
         &rt,
+        read_over,
         &[
             refused(b"\x80a       \x10\x04\x81bury    \x10\x01\x11\x00", 8, 22),
             refused(
@@ -108,30 +96,26 @@ fn missing_marks_are_refused(rt: HostRuntime) -> Result<(), Fail> {
                 44,
             ),
         ],
-    )
-}
-
-// A part that stands once more than it may: the last is refused with 4.
-fn check_count(
-    rt: &(impl Abort + AllocGlobal),
-    first: &[u8],
-    part: &[u8],
-    most: u32,
-    grows: u32,
-) -> Result<(), Fail> {
-    let long = repeated(rt, rt.alloc(), first, part, most.saturating_add(1), grows)?;
-    check_refused(rt, long.file.as_slice(), 4, long.last)
+    );
 }
 
 #[test]
 fn counts_are_refused(rt: HostRuntime) -> Result<(), Fail> {
-    check_count(&rt, b"", b"\x80oper... ", 64, 1)?;
-    check_count(&rt, b"\x80a       ", b"\x10\x01", 6, 1)?;
-    check_count(&rt, b"", b"\x81call... ", 64, 1)?;
-    check_count(&rt, b"\x81a       ", b"\x10\x01", 8, 1)?;
-    check_count(&rt, b"\x80a       \x81a       ", b"\x11\x00", 8, 0)?;
+    check_count(&rt, read_over, b"", b"\x80oper... ", 64, 1)?;
+    check_count(&rt, read_over, b"\x80a       ", b"\x10\x01", 6, 1)?;
+    check_count(&rt, read_over, b"", b"\x81call... ", 64, 1)?;
+    check_count(&rt, read_over, b"\x81a       ", b"\x10\x01", 8, 1)?;
     check_count(
         &rt,
+        read_over,
+        b"\x80a       \x81a       ",
+        b"\x11\x00",
+        8,
+        0,
+    )?;
+    check_count(
+        &rt,
+        read_over,
         b"\x80a       \x81a       \x10\x01\x12\x01",
         b"\x20\x00\x00",
         8,
@@ -142,32 +126,35 @@ fn counts_are_refused(rt: HostRuntime) -> Result<(), Fail> {
 #[test]
 fn lengths_are_tested_first(rt: HostRuntime) -> Result<(), Fail> {
     let short = vec![in rt.alloc(); 0; 32767]?;
-    check_refused(&rt, short.as_slice(), 1, 0)?;
     let long = vec![in rt.alloc(); 0; 32768]?;
-    check_refused(&rt, long.as_slice(), 4, 0)
+    check_all(
+        &rt,
+        read_over,
+        &[
+            refused(short.as_slice(), 1, 0),
+            refused(long.as_slice(), 4, 0),
+        ],
+    );
+    Ok(())
 }
 
 #[test]
-fn each_beginning_of_the_example_is_a_book_or_cut_off(rt: HostRuntime) -> Result<(), Fail> {
+fn each_beginning_of_the_example_is_a_book_or_cut_off(rt: HostRuntime) {
     let mut books = 0u32;
-    for length in 0..82usize {
-        let Some(part) = BOOK.get(0..length) else {
-            return Err(Fail::new("too long"));
-        };
-        let mut book = Book::empty();
-        match read_book(part, &mut book) {
+    let example: &[u8] = BOOK;
+    for length in 0..=example.len() {
+        match read_book(&example[0..length], &mut Book::empty()) {
             Ok(()) => books = books.saturating_add(1),
             Err(refused) => assert_eq!(rt; refused.refusal.number(), 2),
         }
     }
     assert_eq!(rt; books, 20);
-    Ok(())
 }
 
 #[test]
 fn each_byte_of_the_example_changed_is_a_book_or_refused(rt: HostRuntime) {
     let mut books = 0u32;
-    for place in 0..81usize {
+    for place in 0..BOOK.len() {
         for byte in 0..=255u8 {
             let mut file = *BOOK;
             file[place] = byte;

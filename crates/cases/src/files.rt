@@ -1,4 +1,5 @@
 // What the cases share: the example's files, a table of refusals, and files that repeat a part.
+use format::refusal::Refused;
 use std::alloc::Global;
 use std::process::Abort;
 use std::test::Fail;
@@ -13,17 +14,31 @@ pub(crate) const POLICY: &[u8; 78] =
 
 // A file, and the number and the offset with which it is refused.
 #[derive(Clone, Copy)]
-pub(crate) struct Case {
-    pub(crate) file: &'static [u8],
+pub(crate) struct Case<'a> {
+    pub(crate) file: &'a [u8],
     pub(crate) number: u8,
     pub(crate) offset: u32,
 }
 
-pub(crate) fn refused(file: &'static [u8], number: u8, offset: u32) -> Case {
+pub(crate) fn refused(file: &[u8], number: u8, offset: u32) -> Case<'_> {
     Case {
         file,
         number,
         offset,
+    }
+}
+
+// Each file is refused as it says, where `read` reads a file as a book or as a policy.
+pub(crate) fn check_all<A: Abort, R: Fn(&A, &[u8]) -> Result<(), Refused>>(
+    rt: &A,
+    read: R,
+    cases: &[Case<'_>],
+)
+    requires { R.IsAlwaysCallable read }
+{
+    for case in cases {
+        let answer = read(rt, case.file).map_err(|met| (met.refusal.number(), met.offset));
+        assert_eq!(rt; answer, Err((case.number, case.offset)));
     }
 }
 
@@ -36,14 +51,13 @@ pub(crate) struct Built {
 
 // A first part, and then a part so many times; from part to part its last byte grows by that much.
 pub(crate) fn repeated(
-    rt: &impl Abort,
-    heap: Global,
+    rt: &(impl Abort + AllocGlobal),
     first: &[u8],
     part: &[u8],
     times: u32,
     grows: u32,
 ) -> Result<Built, Fail> {
-    let mut file = Vec::new(heap);
+    let mut file = Vec::new(rt.alloc());
     file.extend_from_slice(first)?;
     let mut offset = 0;
     for number in 0..times {
@@ -58,6 +72,22 @@ pub(crate) fn repeated(
         file,
         last: offset as u32,
     })
+}
+
+// A part that stands once more than it may: the last is refused with 4.
+pub(crate) fn check_count<A: Abort + AllocGlobal, R: Fn(&A, &[u8]) -> Result<(), Refused>>(
+    rt: &A,
+    read: R,
+    first: &[u8],
+    part: &[u8],
+    most: u32,
+    grows: u32,
+) -> Result<(), Fail>
+    requires { R.IsAlwaysCallable read }
+{
+    let long = repeated(rt, first, part, most.saturating_add(1), grows)?;
+    check_all(rt, read, &[refused(long.file.as_slice(), 4, long.last)]);
+    Ok(())
 }
 
 // A policy of 128 cells in which each cell is set from the next, and where asked a violation reads

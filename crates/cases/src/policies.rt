@@ -1,11 +1,12 @@
 // Files read as policies against the example book: refusals, counts, coverage, naming, and the example cut short and changed.
-use crate::files::{BOOK, Case, POLICY, refused, repeated};
+use crate::files::{BOOK, POLICY, check_all, check_count, refused, repeated};
 use book::table::Book;
 use book_file::reading::read_book;
 use format::refusal::Refused;
 use policy::naming::{Asked, name_of};
 use policy::table::Table;
 use policy_file::reading::read_policy;
+use std::array;
 use std::process::Abort;
 use std::test::Fail;
 
@@ -16,7 +17,7 @@ fn example_book(rt: &impl Abort) -> Book {
 }
 
 // Nothing of a book or a policy is left in the table.
-fn check_empty(rt: &impl Abort, table: &Table) -> Result<(), Fail> {
+fn check_empty(rt: &impl Abort, table: &Table) {
     assert_eq!(rt;
         (table.book().operation_count(), table.book().call_count()),
         (0, 0)
@@ -29,39 +30,26 @@ fn check_empty(rt: &impl Abort, table: &Table) -> Result<(), Fail> {
         ),
         (0, 0, 0)
     );
-    Ok(())
 }
 
-// A refused file leaves the table of two empty files, whatever the table held before.
-fn check_refused(rt: &impl Abort, file: &[u8], number: u8, offset: u32) -> Result<(), Fail> {
+// Reads the file into a table that holds the example; a refused one leaves the table of two empty
+// files.
+fn read_over(rt: &impl Abort, file: &[u8]) -> Result<(), Refused> {
     let book = example_book(rt);
     let mut table = Table::empty();
     assert!(rt; read_policy(POLICY, &book, &mut table).is_ok());
-    match read_policy(file, &book, &mut table) {
-        Ok(()) => Err(Fail::new("read")),
-        Err(
-            Refused {
-                refusal,
-                offset: at,
-            },
-        ) => {
-            assert_eq!(rt; (refusal.number(), at), (number, offset));
-            check_empty(rt, &table)
-        }
+    let answer = read_policy(file, &book, &mut table);
+    if answer.is_err() {
+        check_empty(rt, &table);
     }
-}
-
-fn check_all(rt: &impl Abort, cases: &[Case]) -> Result<(), Fail> {
-    for case in cases {
-        check_refused(rt, case.file, case.number, case.offset)?;
-    }
-    Ok(())
+    answer
 }
 
 #[test]
-fn commands_are_refused(rt: HostRuntime) -> Result<(), Fail> {
+fn commands_are_refused(rt: HostRuntime) {
     check_all(
         &rt,
+        read_over,
         &[
             refused(b"\x02", 1, 0),
             refused(b"@\x00\x00\x00\x00\x12\x01", 1, 5),
@@ -81,13 +69,14 @@ fn commands_are_refused(rt: HostRuntime) -> Result<(), Fail> {
                 22,
             ),
         ],
-    )
+    );
 }
 
 #[test]
-fn operands_are_refused(rt: HostRuntime) -> Result<(), Fail> {
+fn operands_are_refused(rt: HostRuntime) {
     check_all(
         &rt,
+        read_over,
         &[
             refused(b"\x90\x00limit  \x7f", 5, 0),
             refused(
@@ -123,13 +112,14 @@ fn operands_are_refused(rt: HostRuntime) -> Result<(), Fail> {
             refused(b"\x90\x00limit   \x01\x90\x01limit   ", 7, 11),
             refused(b"\x00\x91\x00limit   \x01\x90\x01limit   ", 7, 12),
         ],
-    )
+    );
 }
 
 #[test]
-fn marks_and_ends_are_refused(rt: HostRuntime) -> Result<(), Fail> {
+fn marks_and_ends_are_refused(rt: HostRuntime) {
     check_all(
         &rt,
+        read_over,
         &[
             // operation 1 has no mark 2
             refused(
@@ -155,30 +145,21 @@ fn marks_and_ends_are_refused(rt: HostRuntime) -> Result<(), Fail> {
                 22,
             ),
         ],
-    )
-}
-
-// A part that stands once more than it may: the last is refused with 4.
-fn check_count(
-    rt: &(impl Abort + AllocGlobal),
-    first: &[u8],
-    part: &[u8],
-    most: u32,
-) -> Result<(), Fail> {
-    let long = repeated(rt, rt.alloc(), first, part, most.saturating_add(1), 0)?;
-    check_refused(rt, long.file.as_slice(), 4, long.last)
+    );
 }
 
 #[test]
 fn counts_are_refused(rt: HostRuntime) -> Result<(), Fail> {
-    check_count(&rt, b"", b"@\x00\x00\x00\x00", 128)?;
-    check_count(&rt, b"", b"\x00", 32)?;
-    check_count(&rt, b"\x00", b"\x10\x00", 16)?;
+    check_count(&rt, read_over, b"", b"@\x00\x00\x00\x00", 128, 0)?;
+    check_count(&rt, read_over, b"", b"\x00", 32, 0)?;
+    check_count(&rt, read_over, b"\x00", b"\x10\x00", 16, 0)?;
     check_count(
         &rt,
+        read_over,
         b"\x90\x00limit   ",
         b"\xb0\x00\x00\x00\x00\x00\x00\x00\x00\x00\x00\x00",
         3,
+        0,
     )
 }
 
@@ -191,39 +172,38 @@ fn the_last_of_257_clauses_is_refused(rt: HostRuntime) -> Result<(), Fail> {
         file.push((48 + number % 64) as u8)?;
         file.extend_from_slice(b"......\x01")?;
     }
-    check_refused(&rt, file.as_slice(), 4, 2816)
+    check_all(&rt, read_over, &[refused(file.as_slice(), 4, 2816)]);
+    Ok(())
 }
 
 #[test]
 fn lengths_are_tested_first(rt: HostRuntime) -> Result<(), Fail> {
     let short = vec![in rt.alloc(); 2; 32767]?;
-    check_refused(&rt, short.as_slice(), 1, 0)?;
     let long = vec![in rt.alloc(); 2; 32768]?;
-    check_refused(&rt, long.as_slice(), 4, 0)
+    check_all(
+        &rt,
+        read_over,
+        &[
+            refused(short.as_slice(), 1, 0),
+            refused(long.as_slice(), 4, 0),
+        ],
+    );
+    Ok(())
 }
 
 #[test]
-fn a_policy_on_a_refused_book_has_no_operation(rt: HostRuntime) -> Result<(), Fail> {
+fn a_policy_on_a_refused_book_has_no_operation(rt: HostRuntime) {
     let mut book = example_book(&rt);
     assert!(rt; read_book(b"\x00", &mut book).is_err());
-    let mut table = Table::empty();
-    match read_policy(POLICY, &book, &mut table) {
-        Ok(()) => Err(Fail::new("read")),
-        Err(refused) => {
-            assert_eq!(rt; (refused.refusal.number(), refused.offset), (6, 10));
-            Ok(())
-        },
-    }
+    check_all(
+        &rt,
+        |_, file| read_policy(file, &book, &mut Table::empty()),
+        &[refused(POLICY, 6, 10)],
+    );
 }
 
 // The policy is read, and its clause 0 applies to these of the three operations.
-fn check_applies(
-    rt: &impl Abort,
-    file: &[u8],
-    first: bool,
-    second: bool,
-    third: bool,
-) -> Result<(), Fail> {
+fn check_applies(rt: &impl Abort, file: &[u8], applies: [bool; 3]) -> Result<(), Fail> {
     let book = example_book(rt);
     let mut table = Table::empty();
     assert!(rt; read_policy(file, &book, &mut table).is_ok());
@@ -231,12 +211,8 @@ fn check_applies(
         return Err(Fail::new("no clause"));
     };
     assert_eq!(rt;
-        (
-            clause.applies_to(0),
-            clause.applies_to(1),
-            clause.applies_to(2),
-        ),
-        (first, second, third)
+        array::from_fn(|operation| clause.applies_to(operation)),
+        applies
     );
     assert!(rt; !clause.applies_to(3) && !clause.applies_to(64));
     Ok(())
@@ -248,34 +224,28 @@ fn groups_cover(rt: HostRuntime) -> Result<(), Fail> {
     check_applies(
         &rt,
         b"\x00\x10\x01\x10\x01\x91\x00looks   \x01",
-        false,
-        true,
-        false,
+        [false, true, false],
     )?;
     // a diamond: group 3 nests 1 and 2, which both nest 0
     check_applies(
         &rt,
         b"\x00\x10\x00\x00\x11\x00\x10\x02\x00\x11\x00\x00\x11\x01\x11\x02\x91\x03looks   \x01",
-        true,
-        false,
-        true,
+        [true, false, true],
     )?;
     // nothing: a field's mark is lacked by no operation
     check_applies(
         &rt,
         b"\x00\x91\x00looks   \xb0\x00\x01\x00\x00\x00\x09\x00\x00\x00\x00\x00\x01",
-        false,
-        false,
-        false,
+        [false, false, false],
     )
 }
 
 #[test]
 fn a_chain_of_32_groups_covers(rt: HostRuntime) -> Result<(), Fail> {
-    let chain = repeated(&rt, rt.alloc(), b"\x00\x10\x02", b"\x00\x11\x00", 31, 1)?;
+    let chain = repeated(&rt, b"\x00\x10\x02", b"\x00\x11\x00", 31, 1)?;
     let mut file = chain.file;
     file.extend_from_slice(b"\x91\x1flooks   \x01")?;
-    check_applies(&rt, file.as_slice(), false, false, true)
+    check_applies(&rt, file.as_slice(), [false, false, true])
 }
 
 // The example's table.
@@ -286,90 +256,60 @@ fn example_table(rt: &impl Abort) -> Table {
     table
 }
 
-fn check_named(
-    rt: &impl Abort,
-    book: &[u8],
-    policy: &[u8],
-    asked: Asked,
-    expected: &[u8],
-) -> Result<(), Fail> {
+// What is asked has that name in the two files, or no name, with that number.
+fn check_name(rt: &impl Abort, book: &[u8], policy: &[u8], asked: Asked, says: Result<&[u8], u8>) {
     let table = example_table(rt);
-    match name_of(&table, asked, book, policy) {
-        Ok(name) => {
-            assert_eq!(rt; name, expected);
-            Ok(())
-        },
-        Err(_) => Err(Fail::new("refused")),
-    }
-}
-
-fn check_unnamed(
-    rt: &impl Abort,
-    book: &[u8],
-    policy: &[u8],
-    asked: Asked,
-    number: u8,
-) -> Result<(), Fail> {
-    let table = example_table(rt);
-    match name_of(&table, asked, book, policy) {
-        Ok(_) => Err(Fail::new("named")),
-        Err(refusal) => {
-            assert_eq!(rt; refusal.number(), number);
-            Ok(())
-        },
-    }
+    let answer = name_of(&table, asked, book, policy);
+    assert_eq!(rt; answer.map_err(|refusal| refusal.number()), says);
 }
 
 #[test]
-fn calls_and_clauses_are_named(rt: HostRuntime) -> Result<(), Fail> {
-    check_named(&rt, BOOK, POLICY, Asked::Call(0), b"bury    ")?;
-    check_named(&rt, BOOK, POLICY, Asked::Clause(3), b"rebury  ")?;
-    check_unnamed(&rt, BOOK, POLICY, Asked::Call(3), 25)?;
-    check_unnamed(&rt, BOOK, POLICY, Asked::Clause(4), 25)?;
-    check_unnamed(&rt, b"", POLICY, Asked::Call(0), 26)?;
-    check_unnamed(&rt, BOOK, b"short", Asked::Clause(3), 26)
+fn calls_and_clauses_are_named(rt: HostRuntime) {
+    check_name(&rt, BOOK, POLICY, Asked::Call(0), Ok(b"bury    "));
+    check_name(&rt, BOOK, POLICY, Asked::Clause(3), Ok(b"rebury  "));
+    check_name(&rt, BOOK, POLICY, Asked::Call(3), Err(25));
+    check_name(&rt, BOOK, POLICY, Asked::Clause(4), Err(25));
+    check_name(&rt, b"", POLICY, Asked::Call(0), Err(26));
+    check_name(&rt, BOOK, b"short", Asked::Clause(3), Err(26));
 }
 
 #[test]
-fn each_beginning_of_the_example_ends_as_it_must(rt: HostRuntime) -> Result<(), Fail> {
+fn each_beginning_of_the_example_ends_as_it_must(rt: HostRuntime) {
     let book = example_book(&rt);
     let mut read = 0u32;
     let mut cut = 0u32;
-    for length in 0..79usize {
-        let Some(part) = POLICY.get(0..length) else {
-            return Err(Fail::new("too long"));
-        };
-        let mut table = Table::empty();
-        match read_policy(part, &book, &mut table) {
+    let example: &[u8] = POLICY;
+    for length in 0..=example.len() {
+        match read_policy(&example[0..length], &book, &mut Table::empty()) {
             Ok(()) => read = read.saturating_add(1),
-            Err(refused) => {
-                if refused.refusal.number() == 2 {
-                    cut = cut.saturating_add(1);
-                } else {
-                    assert_eq!(rt;
-                        (refused.refusal.number(), refused.offset as usize),
-                        (9, length)
-                    );
-                }
-            }
+            Err(refused) if refused.refusal.number() == 2 => cut = cut.saturating_add(1),
+            Err(refused) => assert_eq!(rt;
+                (refused.refusal.number(), refused.offset as usize),
+                (9, length)
+            ),
         }
     }
     assert_eq!(rt; (read, cut), (7, 67));
-    Ok(())
 }
 
 #[test]
-fn the_example_cut_short_is_refused(rt: HostRuntime) -> Result<(), Fail> {
-    let policy = &POLICY[..];
-    check_refused(&rt, &policy[0..77], 9, 77)?;
-    check_refused(&rt, &policy[0..76], 2, 67)
+fn the_example_cut_short_is_refused(rt: HostRuntime) {
+    let example: &[u8] = POLICY;
+    check_all(
+        &rt,
+        read_over,
+        &[
+            refused(&example[0..77], 9, 77),
+            refused(&example[0..76], 2, 67),
+        ],
+    );
 }
 
 #[test]
-fn each_byte_of_the_example_changed_is_a_policy_or_refused(rt: HostRuntime) -> Result<(), Fail> {
+fn each_byte_of_the_example_changed_is_a_policy_or_refused(rt: HostRuntime) {
     let book = example_book(&rt);
     let mut read = 0u32;
-    for place in 0..78usize {
+    for place in 0..POLICY.len() {
         for byte in 0..=255u8 {
             let mut file = *POLICY;
             file[place] = byte;
@@ -378,11 +318,10 @@ fn each_byte_of_the_example_changed_is_a_policy_or_refused(rt: HostRuntime) -> R
                 Ok(()) => read = read.saturating_add(1),
                 Err(refused) => {
                     assert!(rt; refused.refusal.number() <= 9 && refused.offset <= 78);
-                    check_empty(&rt, &table)?;
+                    check_empty(&rt, &table);
                 }
             }
         }
     }
     assert_eq!(rt; read, 8210);
-    Ok(())
 }

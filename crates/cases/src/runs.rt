@@ -7,7 +7,6 @@ use register::joined::Joined;
 use register::register::Register;
 use run::answers::Request;
 use run::run::Run;
-use std::alloc::Global;
 use std::process::Abort;
 use std::test::Fail;
 
@@ -34,29 +33,27 @@ fn cell(number: u32, says: &str) -> Step<'_> {
 
 // Uses the requests on a run, in order.
 fn check_steps<R: Register>(
-    rt: &impl Abort,
-    heap: Global,
+    rt: &(impl Abort + AllocGlobal),
     run: &mut Run<R>,
     steps: &[Step],
 ) -> Result<(), Fail> {
     for step in steps {
         let answer = run.answer(step.request);
-        assert_eq!(rt; format!(in heap; "{answer}")?.as_str(), step.says);
+        assert_eq!(rt; format!(in rt.alloc(); "{answer}")?.as_str(), step.says);
     }
     Ok(())
 }
 
 // The requests have those answers, and the plots end so, on a flat register.
 fn check_flat(
-    rt: &impl Abort,
-    heap: Global,
+    rt: &(impl Abort + AllocGlobal),
     table: &Table,
     steps: &[Step],
     plots: &[u32],
 ) -> Result<(), Fail> {
     let mut numbers = [0; 3];
     let mut run = Run::open(table, Flat::new(&mut numbers));
-    check_steps(rt, heap, &mut run, steps)?;
+    check_steps(rt, &mut run, steps)?;
     let left: &[u32] = run.close().into_numbers();
     assert_eq!(rt; left, plots);
     Ok(())
@@ -64,8 +61,7 @@ fn check_flat(
 
 // The same on two registers joined, of one plot and of two.
 fn check_joined(
-    rt: &impl Abort,
-    heap: Global,
+    rt: &(impl Abort + AllocGlobal),
     table: &Table,
     steps: &[Step],
     old: &[u32],
@@ -75,7 +71,7 @@ fn check_joined(
     let mut second = [0; 2];
     let grounds = Joined::new(Flat::new(&mut first), Flat::new(&mut second));
     let mut run = Run::open(table, grounds);
-    check_steps(rt, heap, &mut run, steps)?;
+    check_steps(rt, &mut run, steps)?;
     let (one, two) = run.close().into_parts();
     let left: &[u32] = one.into_numbers();
     assert_eq!(rt; left, old);
@@ -87,8 +83,7 @@ fn check_joined(
 // The requests have those answers, and the plots end as the old ground and its extension, on both
 // registers.
 fn check_case(
-    rt: &impl Abort,
-    heap: Global,
+    rt: &(impl Abort + AllocGlobal),
     book: &[u8],
     steps: &[Step],
     plots: [u32; 3],
@@ -96,15 +91,14 @@ fn check_case(
     let mut table = Table::empty();
     assert!(rt; load(Some(book), Some(POLICY), &mut table).is_ok());
     let [one, two, three] = plots;
-    check_flat(rt, heap, &table, steps, &[one, two, three])?;
-    check_joined(rt, heap, &table, steps, &[one], &[two, three])
+    check_flat(rt, &table, steps, &[one, two, three])?;
+    check_joined(rt, &table, steps, &[one], &[two, three])
 }
 
 #[test]
 fn a_second_burial_stops_the_run(rt: HostRuntime) -> Result<(), Fail> {
     check_case(
         &rt,
-        rt.alloc(),
         BOOK,
         &[
             call(0, &[1, 70, 5], "done 0"),
@@ -120,7 +114,6 @@ fn a_second_burial_stops_the_run(rt: HostRuntime) -> Result<(), Fail> {
 fn the_third_burial_is_denied(rt: HostRuntime) -> Result<(), Fail> {
     check_case(
         &rt,
-        rt.alloc(),
         BOOK,
         &[
             call(0, &[0, 70, 5], "done 0"),
@@ -137,7 +130,6 @@ fn the_third_burial_is_denied(rt: HostRuntime) -> Result<(), Fail> {
 fn refused_calls_change_nothing(rt: HostRuntime) -> Result<(), Fail> {
     check_case(
         &rt,
-        rt.alloc(),
         BOOK,
         &[
             call(0, &[9, 70, 5], "refused 23"),
@@ -156,7 +148,6 @@ fn refused_calls_change_nothing(rt: HostRuntime) -> Result<(), Fail> {
 fn values_go_by_their_marks(rt: HostRuntime) -> Result<(), Fail> {
     check_case(
         &rt,
-        rt.alloc(),
         b"\x80reg.put \x10\x01\x10\x02\x80reg.look\x10\x01\x80overwrit\x10\xff\x81bury    \x10\x04\x10\x01\x10\x02\x10\x03\x11\x00\x12\x02\x20\x02\x01\x81show    \x10\x01\x11\x01\x12\x01\x81ping    ",
         &[
             call(0, &[8, 1, 70, 5], "done 0"),
