@@ -5,7 +5,7 @@ use format::refusal::Refused;
 use std::fmt;
 
 // Why there is no table: a file is missing, or it is refused. The book's fault comes first.
-#[derive(Clone, Copy)]
+#[derive(Clone, Copy, Debug, PartialEq, Eq)]
 pub enum Fault {
     BookMissing,
     BookRefused(Refused),
