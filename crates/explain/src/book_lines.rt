@@ -1,10 +1,7 @@
 // The lines that tell a book, as values.
-use book::marks::has;
+use book::marks::{ANSWER, has};
 use book::table::{Act, Call, Condition, Operation};
 use std::fmt;
-
-// The mark that the register's answer fills.
-const ANSWER: u8 = 255;
 
 // A word and the marks behind it, or that there are none: `marks 1 2`, `no marks`.
 #[derive(Drop)]
@@ -76,7 +73,7 @@ impl fmt::Display for OperationLine<'_> {
     }
 }
 
-// A call of the book.
+// A call of the book. One type for both lines would take their words too, and be no shorter.
 #[derive(Drop)]
 pub(crate) struct CallLine<'a> {
     pub(crate) number: usize,

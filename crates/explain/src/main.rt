@@ -29,11 +29,10 @@ fn print_parts(rt: &HostRuntime, book: &Book, call: &Call) -> anyhow::Result<()>
     }
     for (place, after) in call.afters().iter().enumerate() {
         if let Some(operation) = book.operation(after.operation as usize) {
-            let condition = after.condition;
             let line = AfterLine {
                 place,
                 operation,
-                condition,
+                condition: after.condition,
             };
             println!(rt; "{line}")?;
         }
@@ -42,29 +41,25 @@ fn print_parts(rt: &HostRuntime, book: &Book, call: &Call) -> anyhow::Result<()>
 }
 
 fn print_book(rt: &HostRuntime, book: &Book) -> anyhow::Result<()> {
-    for number in 0..book.operation_count() {
-        if let Some(operation) = book.operation(number) {
-            let line = OperationLine { number, operation };
-            println!(rt; "{line}")?;
-        }
+    for (number, operation) in book.operations().iter().enumerate() {
+        let line = OperationLine { number, operation };
+        println!(rt; "{line}")?;
     }
-    for number in 0..book.call_count() {
-        if let Some(call) = book.call(number) {
-            let line = CallLine { number, call };
-            println!(rt; "{line}")?;
-            print_parts(rt, book, call)?;
-        }
+    for (number, call) in book.calls().iter().enumerate() {
+        let line = CallLine { number, call };
+        println!(rt; "{line}")?;
+        print_parts(rt, book, call)?;
     }
     Ok(())
 }
 
 fn print_policy(rt: &HostRuntime, table: &Table) -> anyhow::Result<()> {
     let book = table.book();
-    for (number, first) in table.cells().iter().enumerate() {
-        let first = *first;
+    for (number, first) in table.cells().iter().copied().enumerate() {
         let line = CellLine { number, first };
         println!(rt; "{line}")?;
     }
+    // what a group covers is asked by its number, and nothing else of the group is printed
     for number in 0..table.group_count() {
         let covers = table.coverage(number);
         let line = GroupLine {

@@ -1,10 +1,8 @@
 // The lines that tell a policy, as values.
+use book::marks::ANSWER;
 use book::table::{Book, OPERATIONS};
 use policy::table::{Action, Clause, Comparison, Term, When, Write};
 use std::{array, fmt};
-
-// The mark that the register's answer fills.
-const ANSWER: u8 = 255;
 
 // The names of the operations that are flagged.
 #[derive(Drop)]
@@ -16,12 +14,12 @@ struct Flagged<'a> {
 impl fmt::Display for Flagged<'_> {
     fn fmt<W: fmt::Write>(&self, f: &mut fmt::Formatter<W>) -> fmt::Result {
         let mut names = self
-            .flags
+            .book
+            .operations()
             .iter()
-            .enumerate()
+            .zip(&self.flags)
             .filter(|(_, flag)| **flag)
-            .filter_map(|(number, _)| self.book.operation(number))
-            .map(|operation| operation.name());
+            .map(|(operation, _)| operation.name());
         let Some(first) = names.next() else {
             return write!(f, "no operation");
         };
