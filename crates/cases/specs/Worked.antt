@@ -1,7 +1,5 @@
 -- The worked cases: one table, and what it says of each.
 use Rattle.std.specs.Prelude.{◌≡◌, ℕ, Bool, true, false, List, [], ◌∷◌, ◌++◌, map, length, take, Some, Ok, Err, codes, Result}
-use Rattle.book.specs.Books.{Cl}
-use Rattle.format.specs.Refusals.{At}
 use Rattle.loading.specs.Faults.Trouble.{bad_book, bad_policy}
 use Rattle.loading.specs.Faults.{Trouble}
 use Rattle.loading.specs.Loading.{loaded}
@@ -15,7 +13,6 @@ use Rattle.run.specs.declared.answers.Answer.TheVariants.{Done, Denied, Stopped,
 use Rattle.run.specs.declared.answers.Answer.{Answer}
 use Rattle.run.specs.declared.answers.Phase.TheVariants.{Before, After}
 use Rattle.run.specs.declared.answers.Refusal.TheVariants.{Stopped as RunStopped, NoSuchCall, WrongCount, NoSuchPlot, NoSuchCell}
-use Rattle.std.specs.List.{AllByRecursion}
 
 -- The files.
 
