@@ -31,17 +31,19 @@ fn cell(number: u32, says: &str) -> Step<'_> {
     }
 }
 
-// Uses the requests on a run, in order.
-fn check_steps<R: Register>(
+// Runs the requests in order on a register, each with its answer, and hands the register back.
+fn check_steps<R: Register + Drop>(
     rt: &(impl Abort + AllocGlobal),
-    run: &mut Run<R>,
+    table: &Table,
+    register: R,
     steps: &[Step],
-) -> Result<(), Fail> {
+) -> Result<R, Fail> {
+    let mut run = Run::open(table, register);
     for step in steps {
         let answer = run.answer(step.request);
         assert_eq!(rt; format!(in rt.alloc(); "{answer}")?.as_str(), step.says);
     }
-    Ok(())
+    Ok(run.close())
 }
 
 // The requests have those answers, and the plots end so, on a flat register.
@@ -52,9 +54,8 @@ fn check_flat(
     plots: &[u32],
 ) -> Result<(), Fail> {
     let mut numbers = [0; 3];
-    let mut run = Run::open(table, Flat::new(&mut numbers));
-    check_steps(rt, &mut run, steps)?;
-    let left: &[u32] = run.close().into_numbers();
+    let register = check_steps(rt, table, Flat::new(&mut numbers), steps)?;
+    let left: &[u32] = register.into_numbers();
     assert_eq!(rt; left, plots);
     Ok(())
 }
@@ -70,9 +71,7 @@ fn check_joined(
     let mut first = [0; 1];
     let mut second = [0; 2];
     let grounds = Joined::new(Flat::new(&mut first), Flat::new(&mut second));
-    let mut run = Run::open(table, grounds);
-    check_steps(rt, &mut run, steps)?;
-    let (one, two) = run.close().into_parts();
+    let (one, two) = check_steps(rt, table, grounds, steps)?.into_parts();
     let left: &[u32] = one.into_numbers();
     assert_eq!(rt; left, old);
     let right: &[u32] = two.into_numbers();
