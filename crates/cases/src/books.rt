@@ -12,7 +12,7 @@ fn read_over(rt: &impl Abort, file: &[u8]) -> Result<(), Refused> {
     assert!(rt; read_book(BOOK, &mut book).is_ok());
     let answer = read_book(file, &mut book);
     if answer.is_err() {
-        assert_eq!(rt; (book.operation_count(), book.call_count()), (0, 0));
+        assert_eq!(rt; (book.operations().len(), book.calls().len()), (0, 0));
     }
     answer
 }
@@ -162,11 +162,11 @@ fn each_byte_of_the_example_changed_is_a_book_or_refused(rt: HostRuntime) {
             match read_book(&file, &mut book) {
                 Ok(()) => {
                     books = books.saturating_add(1);
-                    assert!(rt; book.operation_count() > 0);
+                    assert!(rt; book.operations().len() > 0);
                 }
                 Err(refused) => {
                     assert!(rt; refused.refusal.number() <= 8 && refused.offset < 81);
-                    assert_eq!(rt; (book.operation_count(), book.call_count()), (0, 0));
+                    assert_eq!(rt; (book.operations().len(), book.calls().len()), (0, 0));
                 }
             }
         }

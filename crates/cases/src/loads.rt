@@ -21,7 +21,7 @@ fn check_fault(
     assert_eq!(rt; format!(in rt.alloc(); "{fault}")?.as_str(), line);
     assert_eq!(rt;
         (
-            table.book().call_count(),
+            table.book().calls().len(),
             table.cells().len(),
             table.clauses().len(),
         ),

@@ -19,13 +19,13 @@ fn example_book(rt: &impl Abort) -> Book {
 // Nothing of a book or a policy is left in the table.
 fn check_empty(rt: &impl Abort, table: &Table) {
     assert_eq!(rt;
-        (table.book().operation_count(), table.book().call_count()),
+        (table.book().operations().len(), table.book().calls().len()),
         (0, 0)
     );
     assert_eq!(rt;
         (
             table.cells().len(),
-            table.group_count(),
+            table.groups().len(),
             table.clauses().len(),
         ),
         (0, 0, 0)

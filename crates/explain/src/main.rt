@@ -18,7 +18,7 @@ use std::fs;
 // The parts of a call, in the order in which they run.
 fn print_parts(rt: &HostRuntime, book: &Book, call: &Call) -> anyhow::Result<()> {
     for (place, number) in call.befores().iter().enumerate() {
-        if let Some(operation) = book.operation(*number as usize) {
+        if let Some(operation) = book.operations().get(usize::from(*number)) {
             let line = BeforeLine { place, operation };
             println!(rt; "{line}")?;
         }
@@ -28,7 +28,7 @@ fn print_parts(rt: &HostRuntime, book: &Book, call: &Call) -> anyhow::Result<()>
         println!(rt; "{line}")?;
     }
     for (place, after) in call.afters().iter().enumerate() {
-        if let Some(operation) = book.operation(after.operation as usize) {
+        if let Some(operation) = book.operations().get(usize::from(after.operation)) {
             let line = AfterLine {
                 place,
                 operation,
@@ -60,7 +60,7 @@ fn print_policy(rt: &HostRuntime, table: &Table) -> anyhow::Result<()> {
         println!(rt; "{line}")?;
     }
     // what a group covers is asked by its number, and nothing else of the group is printed
-    for number in 0..table.group_count() {
+    for number in 0..table.groups().len() {
         let covers = table.coverage(number);
         let line = GroupLine {
             number,

@@ -15,9 +15,9 @@ fn steps_are_told(rt: HostRuntime) -> Result<(), Fail> {
     let mut book = Book::empty();
     assert!(rt; read_book(BOOK, &mut book).is_ok());
     let (Some(all), Some(own), Some(none)) = (
-        book.operation(0),
-        book.operation(1),
-        book.operation(2),
+        book.operations().get(0),
+        book.operations().get(1),
+        book.operations().get(2),
     ) else {
         return Err(Fail::new("no operation"));
     };

@@ -104,7 +104,7 @@ impl<R: Register> Run<R> {
     fn call_for(&self, number: u32, values: &[u32]) -> Result<Call, Refusal>
         ensures { let found = call_for values.now (slice_get (table_of self.now.table).book.calls number) in MatchResult result (λ c. found ≡ Ok (cl_of c)) (λ e. found ≡ Err e) }
     {
-        let found = self.table.book().call(number as usize);
+        let found = self.table.book().calls().get(number as usize);
         let call = found.ok_or(Refusal::NoSuchCall)?;
         if values.len() != call.fields().len() {
             return Err(Refusal::WrongCount);
