@@ -140,6 +140,7 @@ fn lengths_are_tested_first(rt: HostRuntime) -> Result<(), Fail> {
 
 #[test]
 fn each_beginning_of_the_example_is_a_book_or_cut_off(rt: HostRuntime) {
+    // counted in the loop, which asserts what each refused file comes to
     let mut books = 0u32;
     let example: &[u8] = BOOK;
     for length in 0..=example.len() {
@@ -153,6 +154,7 @@ fn each_beginning_of_the_example_is_a_book_or_cut_off(rt: HostRuntime) {
 
 #[test]
 fn each_byte_of_the_example_changed_is_a_book_or_refused(rt: HostRuntime) {
+    // counted in the loop, which asserts what each refused file comes to
     let mut books = 0u32;
     for place in 0..BOOK.len() {
         for byte in 0..=255u8 {

@@ -276,6 +276,7 @@ fn calls_and_clauses_are_named(rt: HostRuntime) {
 #[test]
 fn each_beginning_of_the_example_ends_as_it_must(rt: HostRuntime) {
     let book = example_book(&rt);
+    // counted in the loop, which asserts what each refused file comes to
     let mut read = 0u32;
     let mut cut = 0u32;
     let example: &[u8] = POLICY;
@@ -308,6 +309,7 @@ fn the_example_cut_short_is_refused(rt: HostRuntime) {
 #[test]
 fn each_byte_of_the_example_changed_is_a_policy_or_refused(rt: HostRuntime) {
     let book = example_book(&rt);
+    // counted in the loop, which asserts what each refused file comes to
     let mut read = 0u32;
     for place in 0..POLICY.len() {
         for byte in 0..=255u8 {
