@@ -109,6 +109,8 @@ fn add_call(book: &mut Book, placed: Placed) -> Result<(), Refusal>
     Ok(())
 }
 
+// SamePlaces stands in each contract from here on: no invariant of one book can tie two of them.
+
 // FIELD: one more mark of the call begun last or, before all calls, of the operation begun last.
 fn add_field(book: &mut Book, mark: u8) -> Result<(), Refusal>
     ensures is { told result (book_of book.new) ≡ judged (book_of book.old) (FIELD mark) }
@@ -146,15 +148,15 @@ fn add_before(book: &mut Book, number: u8) -> Result<(), Refusal>
 }
 
 // ACT: the act of the call begun last.
-fn add_act(book: &mut Book, number: u8) -> Result<(), Refusal>
-    ensures is { told result (book_of book.new) ≡ judged (book_of book.old) (ACT number) }
+fn add_act(book: &mut Book, act: u8) -> Result<(), Refusal>
+    ensures is { told result (book_of book.new) ≡ judged (book_of book.old) (ACT act) }
     ensures places { SamePlaces book.old book.new }
 {
     let call = last_call(book)?;
     if call.act().is_some() {
         return Err(Refusal::OutOfTurn);
     }
-    let act = Act::try_from(number)?;
+    let act = Act::try_from(act)?;
     if !has_all(&[], call.fields(), act.needs()) {
         return Err(Refusal::MarkMissing);
     }
@@ -191,6 +193,7 @@ fn behind(name: Name, offset: u16) -> Placed
 }
 
 // The command that begins at that offset of the file.
+// The match stays: each command has its own operands, so a table of functions would be no plainer.
 pub(crate) fn obey(book: &mut Book, command: Command, offset: u16) -> Result<(), Refusal>
     ensures is { told result (book_of book.new) ≡ judged (book_of book.old) command }
     ensures operations { OnOk result (operation_places book.new ≡ operation_places book.old ++ place_of (operation_name command) offset) }

@@ -7,7 +7,7 @@ use tables::name::Name;
 
 // A command of a book's file, with its operands.
 // Acts and conditions stay bytes: a command is written back as it was read, and its tests come in turn.
-#[derive(Clone, Copy)]
+#[derive(Clone, Copy, Debug, PartialEq, Eq)]
 pub enum Command {
     Operation(Name),
     Field(u8),

@@ -41,6 +41,8 @@ fn open_clause(table: &Table) -> Result<&Clause, Refusal>
     Ok(clause)
 }
 
+// SameBeside stands in most contracts below: no invariant of one table can tie two of them.
+
 // CELL: one more cell, with its first value.
 fn add_cell(table: &mut Table, first: u32) -> Result<(), Refusal>
     ensures is { told result (policy_of table.new) ≡ judged (book_of table.old.book) (policy_of table.old) (CELL first) }
@@ -210,6 +212,7 @@ fn behind(label: Name, offset: u16) -> Placed
 }
 
 // The command that begins at that offset of the file.
+// The match stays: each command has its own operands, so a table of functions would be no plainer.
 pub(crate) fn obey(table: &mut Table, command: Command, offset: u16) -> Result<(), Refusal>
     ensures is { told result (policy_of table.new) ≡ judged (book_of table.old.book) (policy_of table.old) command }
     ensures book { table.new.book ≡ table.old.book }

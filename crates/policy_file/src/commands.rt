@@ -13,14 +13,14 @@ use tables::name::Name;
 
 // A term as a file has it: its kind and its number.
 // The kind stays a byte, as WHEN's comparison does: a command is written back as it was read, and its tests come in turn.
-#[derive(Clone, Copy)]
+#[derive(Clone, Copy, Debug, PartialEq, Eq)]
 pub struct RawTerm {
     pub kind: u8,
     pub number: u32,
 }
 
 // A command of a policy's file, with its operands.
-#[derive(Clone, Copy)]
+#[derive(Clone, Copy, Debug, PartialEq, Eq)]
 pub enum Command {
     Cell(u32),
     Group,
