@@ -20,8 +20,6 @@ LINES = [
     (1, "an arm that hands an Option or a Result on",
      r"^\s*(Ok\((\w+)\) => Ok\(\2\),|Some\((\w+)\) => \3,|None => (Err\(|None,|Ok\(None\)|false,|0,)|"
      r"Err\(\w+\) => Err\(|Err\(_\) => Err\(|Some\(\w+\) => (Ok\(|Some\()|Ok\(\w+\) => Ok\(\w+[ ({])"),
-    (1, "an `if let Err` that only hands the error on", r"^\s*if let Err\((\w+)\) = .*\{$"),
-    (1, "a `let else` that returns a refusal", r"^\s*let Some\(\w+\) = .* else \{$"),
     (1, "a refusal's number in an arm of its own", r"^\s*\w+::\w+ => \d+,$"),
     (1, "a number for a kind, or one that stands for none", r"\bkind: u8,$|= u32::MAX;|self\.kind == 0"),
     (3, "a count by hand", r"\b(count|offset) \+= "),
@@ -78,6 +76,12 @@ def each_line(pattern):
 for point, what, pattern in LINES:
     report(point, what, list(each_line(pattern)))
 
+# Two lines: what is not there is handed on as an error of its own.
+handed = re.compile(r"(let Some\(\w+\) = .* else|if let Err\(\w+\) = .*) \{\n\s*return Err\(")
+report(1, "a `let else` or an `if let` that returns an error",
+       [f"{SHORT[p]}:{TEXTS[p][:m.start()].count(chr(10)) + 1}: {m.group(1)[:90]}"
+        for p in FILES for m in handed.finditer(TEXTS[p])])
+
 report(1, "an enum without derived equality",
        [f"{SHORT[p]}: {m.group(2)}" for p in FILES
         for m in re.finditer(r"#\[derive\(([^)]*)\)\]\n(?:pub(?:\(crate\))? )?enum (\w+)", TEXTS[p])
@@ -96,7 +100,9 @@ for p in FILES:
     for name, parameters, body, line in functions(TEXTS[p]):
         if len(shape(body)) > 24 and name != "fmt":
             shapes[shape(body)].append(f"{SHORT[p]}:{line} {name}")
-        listed = [re.sub(r"\s+|mut ", "", x) for x in parameters.split(",") if ":" in x]
+        # the runtime and the allocator are handed in everywhere, as the language has it
+        listed = [re.sub(r"\s+|mut ", "", x) for x in parameters.split(",")
+                  if ":" in x and not re.match(r"\s*(rt|heap):", x)]
         for i, a in enumerate(listed):
             for b in listed[i + 1:]:
                 pairs[(a, b)].add(f"{SHORT[p].split('/')[0]} {name}")

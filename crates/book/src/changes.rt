@@ -57,6 +57,8 @@ impl Call {
     }
 }
 
+// What each of these leaves as it was stands on it as clauses: no invariant of one book ties two of them. Each lends
+// its row in one `if let`; a closure over the row would take as many lines, and promise no more than the closure does.
 impl Book {
     // The operation begun last is lent to take one more mark.
     pub fn push_mark(&mut self, mark: u8)
@@ -120,7 +122,8 @@ impl Book {
         find(self.calls.held(), name)
     }
 
-    // One more operation, where there is room.
+    // One more operation, where there is room. As for a call below, this is one use of the rows' own push: a function for
+    // both would name the kind of row, and with it the list, its meaning and its places, for that one line.
     pub fn push_operation(&mut self, placed: Placed)
         ensures is { book_of self.new ≡ (if full 64 (book_of self.old).operations then book_of self.old else with_operation placed.name (book_of self.old)) }
         ensures operations { operation_places self.new ≡ (if full 64 (book_of self.old).operations then operation_places self.old else operation_places self.old ++ placed.place ∷ []) }

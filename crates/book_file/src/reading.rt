@@ -40,6 +40,7 @@ impl Reading for BookReading {
         self.book = Book::empty();
     }
 
+    // These lines are each reader's own: shared, they would take the type of its commands through the law of reading.
     fn step<'a>(&mut self, rest: &'a [u8], offset: u16) -> Result<&'a [u8], Refusal> {
         let (command, after) = read_command(rest)?;
         obey(&mut self.book, command, offset)?;

@@ -176,6 +176,7 @@ fn the_last_of_257_clauses_is_refused(rt: HostRuntime) -> Result<(), Fail> {
     Ok(())
 }
 
+// Of one shape with the cases of books, and of other bytes: shared, they would be handed in as all there is to them.
 #[test]
 fn lengths_are_tested_first(rt: HostRuntime) -> Result<(), Fail> {
     let short = vec![in rt.alloc(); 2; 32767]?;
@@ -207,9 +208,7 @@ fn check_applies(rt: &impl Abort, file: &[u8], applies: [bool; 3]) -> Result<(),
     let book = example_book(rt);
     let mut table = Table::empty();
     assert!(rt; read_policy(file, &book, &mut table).is_ok());
-    let Some(clause) = table.clauses().first() else {
-        return Err(Fail::new("no clause"));
-    };
+    let clause = table.clauses().first().ok_or(Fail::new("no clause"))?;
     assert_eq!(rt;
         array::from_fn(|operation| clause.applies_to(operation)),
         applies

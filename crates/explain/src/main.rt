@@ -40,6 +40,7 @@ fn print_parts(rt: &HostRuntime, book: &Book, call: &Call) -> anyhow::Result<()>
     Ok(())
 }
 
+// The runtime and the book go together through two functions: what is printed on, and what is told.
 fn print_book(rt: &HostRuntime, book: &Book) -> anyhow::Result<()> {
     for (number, operation) in book.operations().iter().enumerate() {
         let line = OperationLine { number, operation };

@@ -70,6 +70,7 @@ fn read_commands<R: Reading>(file: &[u8], reading: &mut R) -> Result<(), Refused
     while !rest.is_empty() {
         match reading.step(rest, offset) {
             Ok(after) => {
+                // by hand: how far it comes is what a step leaves, and no iterator's count
                 offset += (rest.len() - after.len()) as u16;
                 rest = after;
             }

@@ -20,7 +20,7 @@ struct Input {
     burials: Vec<Burial>,
 }
 
-// The text of a file.
+// The text of a file. The fault is this program's own, in its own words: shared, this call would be generic in it.
 fn read_text(rt: &HostRuntime, file: &'static str) -> Result<String, Fault> {
     fs::read_to_string(rt, file).map_err(|error| Fault {
         file,

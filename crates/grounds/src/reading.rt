@@ -57,6 +57,7 @@ impl fmt::Display for Fault {
 }
 
 // The number that a word on that line stands for.
+// Words of a line go with its number, which alone a fault tells.
 fn number(word: &str, line: usize) -> Result<u32, Problem> {
     read_number(word).map_err(|why| Problem::NotNumber { line, why })
 }

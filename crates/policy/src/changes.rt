@@ -39,6 +39,8 @@ impl Clause {
     }
 }
 
+// What each of these leaves as it was stands on it as clauses: no invariant of one table ties two of them. Each lends
+// its row in one `if let`; a closure over the row would take as many lines, and promise no more than the closure does.
 impl Table {
     // One more cell, where there is room, with its first value.
     pub fn push_cell(&mut self, first: u32)

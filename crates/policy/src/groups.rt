@@ -30,7 +30,7 @@ impl Group {
     }
 }
 
-// A walk over groups: which were walked, and for each operation whether one of them covers it.
+// A walk over groups, in fixed arrays as all tables here: which were walked, and for each operation whether one of them covers it.
 #[derive(Drop)]
 struct Walk {
     walked: [bool; GROUPS],

@@ -21,6 +21,7 @@ pub enum NamingRefusal {
 }
 
 impl NamingRefusal {
+    // Its discriminant, by a name: `u8::from(refusal)` would not say what the number is.
     pub fn number(self) -> u8
         ensures { result ≡ naming_number self }
     {

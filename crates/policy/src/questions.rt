@@ -4,7 +4,7 @@
 ghost use Rattle.book.specs.Books.{empty_book, marks_at, filled, has as has_mark};
 ghost use Rattle.book.specs.Meaning.{book_of, operation_places, call_places};
 ghost use Rattle.policy.specs.Meaning.{gr_of, cs_of, policy_of, table_of, cs_place, label_places};
-ghost use Rattle.policy.specs.Policies.{empty_policy, lacks as lacks_mark};
+ghost use Rattle.policy.specs.Policies.{empty_policy, lacks as lacks_term, lacked_from};
 ghost use Rattle.std.specs.Prelude.{◌≡◌, [], map, length, is_some};
 ghost use Rattle.std.specs.Option.{option_map};
 ghost use Rattle.std.specs.List.{slice_get};
@@ -86,17 +86,20 @@ impl Table {
 
     // Whether an operation to which the clause applies lacks the mark, where the term is a field.
     pub fn lacks(&self, clause: &Clause, term: Term) -> bool
-        ensures { result ≡ lacks_mark (book_of self.now.book).operations (cs_of clause.now).covers term }
+        ensures { result ≡ lacks_term (book_of self.now.book).operations (cs_of clause.now).covers term }
     {
-        let Term::Field(mark) = term else {
-            return false;
-        };
-        for (number, applies) in clause.covers.iter().enumerate() {
-            if *applies && !self.has_mark(number, mark) {
-                return true;
-            }
+        match term {
+            Term::Field(mark) => self.lacks_mark(clause, mark),
+            Term::Number(_) | Term::Cell(_) => false,
         }
-        false
+    }
+
+    // Whether an operation to which the clause applies lacks the mark.
+    fn lacks_mark(&self, clause: &Clause, mark: u8) -> bool
+        ensures { result ≡ lacked_from (book_of self.now.book).operations mark 0 (cs_of clause.now).covers }
+    {
+        clause.covers.iter().enumerate().any(|(number, applies)| *applies
+            && !self.has_mark(number, mark))
     }
 
     // Whether the operation of that number has the mark.

@@ -83,6 +83,7 @@ pub struct Group {
 pub struct Clause {
     pub(crate) label: Placed,
     pub(crate) target: Target,
+    // fixed, as all tables here: a flag for each operation that a book can have
     pub(crate) covers: [bool; OPERATIONS],
     pub(crate) whens: Rows<When, WHENS>,
     pub(crate) action: Option<Action>,

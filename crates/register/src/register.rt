@@ -30,6 +30,7 @@ pub trait Register {
     fn look(&self, plot: u32) -> Option<u32>
         ensures { result ≡ entry_at (meaning self.now) plot };
 
+    // The plot and the entry are two, as a key and its value: a struct of both would be taken apart at each call.
     // Puts an entry at a plot and answers the one that stood there, or none where there is no such plot.
     fn put(&mut self, plot: u32, entry: u32) -> Option<u32>
         ensures found { result ≡ entry_at (meaning self.old) plot }

@@ -24,7 +24,7 @@ struct Input {
     lines: Vec<Line>,
 }
 
-// The text of a file.
+// The text of a file. The fault is this program's own, in its own words: shared, this call would be generic in it.
 fn read_text(rt: &HostRuntime, file: &'static str) -> Result<String, Fault> {
     fs::read_to_string(rt, file).map_err(|error| Fault {
         file,

@@ -60,7 +60,7 @@ impl fmt::Display for Fault {
     }
 }
 
-// The number that a word on that line stands for.
+// The number that a word on that line stands for; the line is all that a fault tells of it.
 fn number(word: &str, line: usize) -> Result<u32, Problem> {
     read_number(word).map_err(|_| Problem::NoNumber { line })
 }
@@ -109,6 +109,7 @@ fn find_call(book: &Book, word: &str) -> Option<u32> {
 
 // The number of the call that a word tells, by its number or by its name.
 fn read_call(book: &Book, word: &str, line: usize) -> Result<u32, Problem> {
+    // a match, since the two errors part here
     match read_number(word) {
         Ok(number) => Ok(number),
         Err(NotNumber::TooLarge) => Err(Problem::NoNumber { line }),

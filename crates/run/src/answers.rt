@@ -59,6 +59,7 @@ pub enum Answer {
 }
 
 impl Refusal {
+    // Its discriminant, by a name: `u8::from(refusal)` would not say what the number is.
     pub fn number(self) -> u8
         ensures { result ≡ number_of self }
     {

@@ -142,7 +142,7 @@ impl<R: Register> Run<R> {
         }
     }
 
-    // Makes a script call.
+    // Makes a script call. The number and the values are a request's own two: the request is that struct.
     pub fn call(&mut self, number: u32, values: &[u32]) -> Answer
         ensures is { record { answer = result; run = state_of R.Register.meaning self.new } ≡ call_of (state_of R.Register.meaning self.old) number values.now }
         ensures leaves { Leaves (state_of R.Register.meaning self.old) (record { answer = result; run = state_of R.Register.meaning self.new }) }

@@ -4,7 +4,7 @@ ghost use Rattle.std.proofs.Math.Utf8.{encodes};
 
 use std::fmt;
 
-// A name of eight letters, filled with spaces at its end.
+// A name of eight letters, filled with spaces at its end: the format's own eight bytes, and so an array.
 #[derive(Clone, Copy, Debug, PartialEq, Eq)]
 pub struct Name {
     pub letters: [u8; 8],

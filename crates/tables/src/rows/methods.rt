@@ -77,7 +77,7 @@ impl<T: Copy, const N: usize> Rows<T, N> {
         }
     }
 
-    // Adds a row where there is room, and says whether there was.
+    // Adds a row where there is room, and says whether there was. The count is kept by hand, the array being fixed.
     pub fn push(&mut self, row: T) -> bool
         ensures after { rows_of self.new ≡ pushed N (rows_of self.old) row }
         ensures done { result ≡ roomy N (rows_of self.old) }
