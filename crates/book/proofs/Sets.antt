@@ -1,8 +1,7 @@
 -- What is asked of a list: whether a mark is one of it, or of two lists, and whether there is an element.
-use Rattle.std.proofs.Common.{◌≡◌, ℕ, Bool, true, false, ◌||◌, eqb, List, [], ◌∷◌, ◌++◌, is_some, Some, None, Decides, Option, refl, ap, ◌∙◌}
+use Rattle.std.proofs.Common.{◌≡◌, ℕ, Bool, true, false, ◌||◌, eqb, List, [], ◌∷◌, ◌++◌, is_some, Decides, refl, ap, ◌∙◌}
 use Rattle.book.specs.Books.{has, filled}
 use Rattle.std.proofs.lemmas.Bool.Decides.{Decides-eqb, Decides-by_or}
-use Rattle.std.specs.Option.{option_map}
 use Rattle.std.specs.List.{ContainsAt as Has}
 use Rattle.tables.specs.Lists.{last_of}
 
@@ -24,8 +23,3 @@ pub filled_last : {X : Type 0} (xs : List X) → is_some (last_of xs) ≡ filled
 filled_last [] = refl
 filled_last (x ∷ []) = refl
 filled_last (x ∷ (y ∷ ys)) = filled_last (y ∷ ys)
-
--- what is read through a reference and what it means is there when the reference is
-pub some_mapped : {X Y : Type 0} (g : X → Y) (o : Option X) → is_some o ≡ is_some (option_map g o)
-some_mapped g None = refl
-some_mapped g (Some x) = refl

@@ -1,7 +1,7 @@
 // What each command does to a book: the tests in the order of their numbers, and then the change.
 #![tactic(auto, using(crate::proofs::Names::meanings))]
 
-ghost use Rattle.std.specs.Prelude.{◌≡◌, [], ◌∷◌, ◌++◌, ◌+◌, map, Some, None, OnOk};
+ghost use Rattle.std.specs.Prelude.{◌≡◌, [], ◌∷◌, ◌++◌, map, Some, None, OnOk};
 ghost use Rattle.book.specs.Meaning.{op_of, cl_of, book_of, operation_places, call_places};
 ghost use Rattle.book_file.specs.Law.{operation_name, call_name};
 ghost use Rattle.book_file.specs.Changes.{SamePlaces};
@@ -182,16 +182,6 @@ fn add_after(book: &mut Book, number: u8, when: u8) -> Result<(), Refusal>
     Ok(())
 }
 
-// The name of a command that begins at that offset: it stands one byte behind.
-fn behind(name: Name, offset: u16) -> Placed
-    ensures { result ≡ record { name = name; place = offset + 1 } }
-{
-    Placed {
-        name,
-        place: u32::from(offset) + 1,
-    }
-}
-
 // The command that begins at that offset of the file.
 // The match stays: each command has its own operands, so a table of functions would be no plainer.
 pub(crate) fn obey(book: &mut Book, command: Command, offset: u16) -> Result<(), Refusal>
@@ -200,9 +190,9 @@ pub(crate) fn obey(book: &mut Book, command: Command, offset: u16) -> Result<(),
     ensures calls { OnOk result (call_places book.new ≡ call_places book.old ++ place_of (call_name command) offset) }
 {
     match command {
-        Command::Operation(name) => add_operation(book, behind(name, offset)),
+        Command::Operation(name) => add_operation(book, Placed::behind(name, offset, 1)),
         Command::Field(mark) => add_field(book, mark),
-        Command::Call(name) => add_call(book, behind(name, offset)),
+        Command::Call(name) => add_call(book, Placed::behind(name, offset, 1)),
         Command::Before(number) => add_before(book, number),
         Command::Act(number) => add_act(book, number),
         Command::After(number, when) => add_after(book, number, when),

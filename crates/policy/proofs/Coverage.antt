@@ -14,6 +14,7 @@ use Rattle.std.proofs.lemmas.Bool.{cases_eq, or_cases, or_left, eq-eqb, ne_eqb, 
 use Rattle.std.proofs.lemmas.Bool.Decides.{same_from_decides}
 use Rattle.std.specs.List.{flat_map, ContainsAt as Among}
 use lib.ListN.{get_or-eq_default}
+use Rattle.std.proofs.lemmas.Bool.{cases_lt}
 
 -- What the members of a group bring.
 
@@ -42,13 +43,8 @@ brought_in before ms o (inr t) = among_joined (brought before) ms (Nest t.0) o t
 abbrev Right : List Gr → List (List ℕ) → Type 0
 Right gs before = (k o : ℕ) → k < length before → (Among (get_or before k []) o → Covers gs k o) × (Covers gs k o → Among (get_or before k []) o)
 
-cases_below : (m n : ℕ) → (m < n) ⊎ (n ≤ m)
-cases_below m zero = inr (omega arith)
-cases_below zero (suc n) = inl (omega arith)
-cases_below (suc m) (suc n) = ⊎_elim (λ l. inl (omega arith)) (λ l. inr (omega arith)) (cases_below m n)
-
 some_below : (before : List (List ℕ)) (h o : ℕ) → Among (get_or before h []) o → h < length before
-some_below before h o a = at (cases_below h (length before))
+some_below before h o a = at (cases_lt h (length before))
   where
     at : (h < length before) ⊎ (length before ≤ h) → h < length before
     at (inl l) = l
@@ -111,7 +107,7 @@ covered_decides gs k o =
     let d = has_decides (covered gs k) o in
     ⊎_elim (λ (l : k < length gs). let m : k < length (coverages gs) = omega (arith, l, r.1) in (λ h. (r.0 k o m).0 (d.0 h), λ c. d.1 ((r.0 k o m).1 c)))
     (λ (l : length gs ≤ k). let e : covered gs k ≡ [] = get_or-eq_default (coverages gs) [] (omega (arith, l, r.1)) in (λ h. absurd (false≢true (ap (λ (os : List ℕ). has os o) (sym e) ∙ h)), λ c. absurd (beyond gs k o l c)))
-    (cases_below k (length gs))
+    (cases_lt k (length gs))
 
 -- the same of a clause's target
 pub applies_decides : (gs : List Gr) (t : Target) (o : ℕ) → Decides (has (applies_to gs t) o) (Applies gs t o)
@@ -137,7 +133,7 @@ flagged_has n (x ∷ os) o l = ⊎_elim here (there (flagged_has n os o l)) (cas
 
 -- what is flagged is in the list
 pub has_flagged : (n : ℕ) (os : List ℕ) (o : ℕ) → get_or (flagged n os) o false ≡ true → has os o ≡ true
-has_flagged n os o e = ⊎_elim (λ l. sym (flagged_has n os o l) ∙ e) (λ l. absurd (false≢true (sym (get_or-eq_default (flagged n os) false (omega (arith, l, flagged_length n os))) ∙ e))) (cases_below o n)
+has_flagged n os o e = ⊎_elim (λ l. sym (flagged_has n os o l) ∙ e) (λ l. absurd (false≢true (sym (get_or-eq_default (flagged n os) false (omega (arith, l, flagged_length n os))) ∙ e))) (cases_lt o n)
 
 -- flags of which each is raised exactly for what a clause with that target applies to
 pub flags_are : (gs : List Gr) (t : Target) (fs : List Bool) → length fs ≡ 64 → ((o : ℕ) → o < 64 → Decides (get_or fs o false) (Applies gs t o)) → fs ≡ flags (applies_to gs t)

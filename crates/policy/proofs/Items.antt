@@ -1,10 +1,10 @@
 -- The clauses of a table as they lie in memory, and as they are counted.
-use Rattle.std.proofs.Common.{◌≡◌, ℕ, ◌<◌, ◌≤◌, List, map, length, get_or, Some, None, sym, refl, ap, ◌∙◌, subst, arith}
+use Rattle.std.proofs.Common.{◌≡◌, ℕ, ◌<◌, List, map, length, get_or, Some, sym, refl, ap, ◌∙◌, subst, arith}
 use Rattle.policy.specs.Meaning.{cs_of}
 use Rattle.policy.specs.Policies.{Cs}
 use Rattle.policy.specs.declared.table.Clause.{Clause}
 use Rattle.std.proofs.lemmas.List.{length-map, get_or-map}
-use Rattle.std.proofs.lemmas.Option.{slice_get_read, slice_get_past}
+use Rattle.std.proofs.lemmas.Option.{slice_get_read}
 use Rattle.std.specs.List.{slice_get}
 
 module _ (xs : List Clause) (cs : List Cs) (same : map cs_of xs ≡ cs) where
@@ -20,6 +20,3 @@ module _ (xs : List Clause) (cs : List Cs) (same : map cs_of xs ≡ cs) where
 
     pub item_at : slice_get cs i ≡ Some (cs_of x)
     item_at = slice_get_read cs (length cs) i (cs_of x) refl item_within item_is
-
-  pub item_past : (i : ℕ) → length xs ≤ i → slice_get cs i ≡ None
-  item_past i l = slice_get_past cs i (let e = items_long in omega arith)

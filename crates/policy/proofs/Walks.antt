@@ -116,11 +116,6 @@ module _ (gs : List Gr) (g : ℕ) (ms : List Member) (mine : members_at gs g ≡
 pub members_are : (gs : List Gr) (g : ℕ) (x : Gr) → Some x ≡ slice_get gs g → members_at gs g ≡ x.members
 members_are gs g x e = ap (or_else [] members_of) (sym e)
 
--- there is no such group, so that it covers nothing
-no_group : (gs : List Gr) (g o : ℕ) → None ≡ slice_get gs g → Covers gs g o → ⊥
-no_group gs g o e (by_has a) = let b = subst (λ (n : List Member). Among n (Has o)) (ap (or_else [] members_of) (sym e)) a in let l : b.0 < 0 = b.1 in omega arith
-no_group gs g o e (by_nest h a m t) = let b = subst (λ (n : List Member). Among n (Nest h)) (ap (or_else [] members_of) (sym e)) a in let l : b.0 < 0 = b.1 in omega arith
-
 some_none : {X : Type 0} (x : X) → ◌≡◌ {A = Option X} (Some x) None → ⊥
 some_none x e = let z : ◌≡◌ {A = ℕ} 0 1 = cc in omega arith
 

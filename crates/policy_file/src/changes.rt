@@ -1,7 +1,7 @@
 // What each command does to a table: the tests in the order of their numbers, and then the change.
 #![tactic(auto, using(book::proofs::Slices::slices))]
 
-ghost use Rattle.std.specs.Prelude.{◌≡◌, not, [], ◌∷◌, ◌++◌, ◌+◌, true, false, Some, None, OnOk};
+ghost use Rattle.std.specs.Prelude.{◌≡◌, not, [], ◌∷◌, ◌++◌, true, false, Some, None, OnOk};
 ghost use Rattle.book.specs.Meaning.{book_of};
 ghost use Rattle.format.specs.Format.{place_of};
 ghost use Rattle.format.specs.Refusals.{told};
@@ -201,16 +201,6 @@ fn add_write(table: &mut Table, write: Write, cell: u8, value: RawTerm) -> Resul
     Ok(())
 }
 
-// The label of a command that begins at that offset: it stands two bytes behind.
-fn behind(label: Name, offset: u16) -> Placed
-    ensures { result ≡ record { name = label; place = offset + 2 } }
-{
-    Placed {
-        name: label,
-        place: u32::from(offset) + 2,
-    }
-}
-
 // The command that begins at that offset of the file.
 // The match stays: each command has its own operands, so a table of functions would be no plainer.
 pub(crate) fn obey(table: &mut Table, command: Command, offset: u16) -> Result<(), Refusal>
@@ -224,10 +214,18 @@ pub(crate) fn obey(table: &mut Table, command: Command, offset: u16) -> Result<(
         Command::Has(operation) => add_member(table, Member::Has(operation)),
         Command::Nest(inner) => add_member(table, Member::Nest(inner)),
         Command::On(operation, label) => {
-            add_clause(table, Target::Operation(operation), behind(label, offset))
+            add_clause(
+                table,
+                Target::Operation(operation),
+                Placed::behind(label, offset, 2),
+            )
         }
         Command::OnGroup(group, label) => {
-            add_clause(table, Target::Group(group), behind(label, offset))
+            add_clause(
+                table,
+                Target::Group(group),
+                Placed::behind(label, offset, 2),
+            )
         }
         Command::When(comparison, left, right) => add_when(table, comparison, left, right),
         Command::Violate => add_violate(table),

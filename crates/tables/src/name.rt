@@ -1,4 +1,4 @@
-ghost use Rattle.std.specs.Prelude.{◌≡◌, Some};
+ghost use Rattle.std.specs.Prelude.{◌≡◌, ◌+◌, Some};
 ghost use Rattle.tables.specs.Names.{prints, proper, trimmed as trimmed_of};
 ghost use Rattle.std.proofs.Math.Utf8.{encodes};
 
@@ -15,6 +15,18 @@ pub struct Name {
 pub struct Placed {
     pub name: Name,
     pub place: u32,
+}
+
+impl Placed {
+    // The name that stands so many bytes behind that offset.
+    pub fn behind(name: Name, offset: u16, bytes: u8) -> Placed
+        ensures { result ≡ record { name = name; place = offset + bytes } }
+    {
+        Placed {
+            name,
+            place: u32::from(offset) + u32::from(bytes),
+        }
+    }
 }
 
 // Whether a letter can be printed: a space, or a visible sign of ASCII.

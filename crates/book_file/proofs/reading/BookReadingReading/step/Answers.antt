@@ -1,4 +1,4 @@
-use Rattle.book.specs.Meaning.{book_of, operation_places, call_places}
+use Rattle.book.specs.Meaning.{book_of}
 use Rattle.book_file.proofs.Steps.{step_is}
 use Rattle.book_file.proofs.reading.BookReadingReading.step.Goals as goal
 use Rattle.std.proofs.Common.{rules}
