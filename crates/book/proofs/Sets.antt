@@ -2,7 +2,7 @@
 use Rattle.std.proofs.Common.{◌≡◌, ℕ, Bool, true, false, ◌||◌, eqb, List, [], ◌∷◌, ◌++◌, is_some, Decides, refl, ap, ◌∙◌}
 use Rattle.book.specs.Books.{has, filled}
 use Rattle.std.proofs.lemmas.Bool.Decides.{Decides-eqb, Decides-by_or}
-use Rattle.std.specs.List.{ContainsAt as Has}
+use Rattle.std.specs.List.{ContainsAt as Has, list_any}
 use Rattle.tables.specs.Lists.{last_of}
 
 or_assoc : (a b c : Bool) → (a || (b || c)) ≡ ((a || b) || c)
@@ -23,3 +23,8 @@ pub filled_last : {X : Type 0} (xs : List X) → is_some (last_of xs) ≡ filled
 filled_last [] = refl
 filled_last (x ∷ []) = refl
 filled_last (x ∷ (y ∷ ys)) = filled_last (y ∷ ys)
+
+-- some mark is it exactly when it is one of them
+pub any_is : (ms : List ℕ) (m : ℕ) → list_any (λ n. eqb n m) ms ≡ has ms m
+any_is [] m = refl
+any_is (n ∷ ns) m = ap (λ (b : Bool). eqb n m || b) (any_is ns m)

@@ -10,6 +10,8 @@ use crate::table::{Act, After, Book, Call, Condition, Operation};
 use tables::lookup::find;
 use tables::name::{Name, Placed};
 
+// Each of these leaves the place as it was, by a clause of its own, and is one use of the rows' push: shared, they would
+// take which rows.
 impl Operation {
     // One more mark, where there is room.
     fn push_mark(&mut self, mark: u8)

@@ -8,6 +8,7 @@ use tables::lookup::Named;
 use tables::name::{Name, Placed};
 use tables::rows::Rows;
 
+// What is handed out of an operation, as of a call: one line each, and a trait for both would need as many.
 impl Operation {
     // An operation with no marks yet.
     pub(crate) fn new(placed: Placed) -> Operation

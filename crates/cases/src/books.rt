@@ -154,7 +154,7 @@ fn each_beginning_of_the_example_is_a_book_or_cut_off(rt: HostRuntime) {
 
 #[test]
 fn each_byte_of_the_example_changed_is_a_book_or_refused(rt: HostRuntime) {
-    // counted in the loop, which asserts what each refused file comes to
+    // counted in the loop, which asserts what each refused file comes to; by index, since a byte is put at each place
     let mut books = 0u32;
     for place in 0..BOOK.len() {
         for byte in 0..=255u8 {

@@ -208,7 +208,10 @@ fn check_applies(rt: &impl Abort, file: &[u8], applies: [bool; 3]) -> Result<(),
     let book = example_book(rt);
     let mut table = Table::empty();
     assert!(rt; read_policy(file, &book, &mut table).is_ok());
-    let clause = table.clauses().first().ok_or(Fail::new("no clause"))?;
+    let clause = table
+        .clauses()
+        .first()
+        .ok_or_else(|| Fail::new("no clause"))?;
     assert_eq!(rt;
         array::from_fn(|operation| clause.applies_to(operation)),
         applies
@@ -308,7 +311,7 @@ fn the_example_cut_short_is_refused(rt: HostRuntime) {
 #[test]
 fn each_byte_of_the_example_changed_is_a_policy_or_refused(rt: HostRuntime) {
     let book = example_book(&rt);
-    // counted in the loop, which asserts what each refused file comes to
+    // counted in the loop, which asserts what each refused file comes to; by index, since a byte is put at each place
     let mut read = 0u32;
     for place in 0..POLICY.len() {
         for byte in 0..=255u8 {

@@ -79,7 +79,7 @@ fn check_joined(
     Ok(())
 }
 
-// The requests have those answers, and the plots end as the old ground and its extension, on both
+// The requests have those answers, and the plots, three in every case, end as the old ground and its extension, on both
 // registers.
 fn check_case(
     rt: &(impl Abort + AllocGlobal),

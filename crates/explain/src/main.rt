@@ -40,7 +40,6 @@ fn print_parts(rt: &HostRuntime, book: &Book, call: &Call) -> anyhow::Result<()>
     Ok(())
 }
 
-// The runtime and the book go together through two functions: what is printed on, and what is told.
 fn print_book(rt: &HostRuntime, book: &Book) -> anyhow::Result<()> {
     for (number, operation) in book.operations().iter().enumerate() {
         let line = OperationLine { number, operation };
@@ -90,6 +89,7 @@ fn run(rt: &HostRuntime) -> anyhow::Result<()> {
         let policy = found(fs::read(rt, "policy.bin"))?;
         loaded = load(book.as_deref(), policy.as_deref(), &mut table);
     }
+    // a fault is what the program prints, and no error of its own
     if let Err(fault) = loaded {
         println!(rt; "{fault}")?;
         return Ok(());

@@ -4,7 +4,7 @@ use book::table::{Book, OPERATIONS};
 use policy::table::{Action, Clause, Comparison, Term, When, Write};
 use std::{array, fmt};
 
-// The names of the operations that are flagged, in the table's own array.
+// The names of the operations that are flagged, in a fixed array, as the table hands them out.
 #[derive(Drop)]
 struct Flagged<'a> {
     book: &'a Book,
@@ -46,7 +46,7 @@ impl fmt::Display for CellLine {
     }
 }
 
-// A group with all that it covers, in the table's own array.
+// A group with all that it covers, in a fixed array, as the table hands it out.
 #[derive(Drop)]
 pub(crate) struct GroupLine<'a> {
     pub(crate) number: usize,

@@ -69,7 +69,10 @@ fn a_group_and_its_clause_are_told(rt: HostRuntime) -> Result<(), Fail> {
         line.to_string(rt.alloc())?.as_str(),
         "group 0: covers all, own"
     );
-    let clause = table.clauses().first().ok_or(Fail::new("no clause"))?;
+    let clause = table
+        .clauses()
+        .first()
+        .ok_or_else(|| Fail::new("no clause"))?;
     let line = ClauseLine {
         number: 0,
         book: &book,

@@ -9,5 +9,5 @@ pub fn byte_count(file: &[u8]) -> usize
     ensures count { result ≡ length file.now }
     ensures bytes { Bytes file.now }
 {
-    file.iter().len()
+    file.len()
 }

@@ -14,6 +14,7 @@ pub enum Problem {
     NoMemory,
 }
 
+// As in the other program: each has problems of its own, and one line makes one of what is shared.
 impl From<io::Error> for Problem {
     fn from(error: io::Error) -> Problem {
         Problem::Unread(Unread::from(error))
@@ -57,7 +58,7 @@ impl fmt::Display for Fault {
 }
 
 // The number that a word on that line stands for.
-// Words of a line go with its number, which alone a fault tells.
+// A word and the number of its line are two: a value of both would be made for each call, and taken apart in it.
 fn number(word: &str, line: usize) -> Result<u32, Problem> {
     read_number(word).map_err(|why| Problem::NotNumber { line, why })
 }

@@ -14,6 +14,7 @@ fn run(rt: &HostRuntime) -> anyhow::Result<()> {
     let book = found(fs::read(rt, "book.bin"))?;
     let policy = found(fs::read(rt, "policy.bin"))?;
     let mut table = Table::empty();
+    // a fault is what the program prints, and no error of its own
     if let Err(fault) = load(book.as_deref(), policy.as_deref(), &mut table) {
         println!(rt; "{fault}")?;
         return Ok(());

@@ -9,7 +9,7 @@ use std::io::ErrorKind;
 pub fn found(read: io::Result<Vec<u8>>) -> io::Result<Option<Vec<u8>>>
     ensures { Found read result }
 {
-    // a match, since one of the errors is an answer
+    // a match, since one of the errors is an answer: a closure for `or_else` would be the same match
     match read {
         Ok(file) => Ok(Some(file)),
         Err(error) if error.kind() == ErrorKind::NotFound => Ok(None),

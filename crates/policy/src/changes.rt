@@ -12,6 +12,7 @@ use crate::table::{Action, Clause, Group, Member, Table, Target, When};
 use tables::lookup::find;
 use tables::name::{Name, Placed};
 
+// These two are one use each of the rows' push: shared, they would take which rows.
 impl Group {
     // One more member, where there is room.
     fn push_member(&mut self, member: Member)

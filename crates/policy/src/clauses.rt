@@ -45,7 +45,7 @@ impl Clause {
     pub fn applies_to(&self, operation: usize) -> bool
         ensures { result ≡ slice_index_or (cs_of self.now).covers operation false }
     {
-        operation < OPERATIONS && self.covers[operation]
+        self.covers.get(operation).copied().unwrap_or(false)
     }
 
     // The conditions, in the order of the file.

@@ -39,7 +39,7 @@ struct Walk {
 }
 
 impl Table {
-    // Flags what the group of that number covers; a group that was walked before is not walked
+    // Flags what the group of that number covers, each by its bound, in one line that no other walk has; a group that was walked before is not walked
     // again.
     fn walk(&self, number: usize, walk: &mut Walk)
         requires { Complete (policy_of self.now).groups walk.old.walked walk.old.covers }

@@ -26,7 +26,8 @@ pub struct Line {
     pub asked: Asked,
 }
 
-// The answers to all requests, and the entries, handed back.
+// The answers to all requests, and the entries, handed back. The requests stay the caller's, so the answers are a list
+// in their order.
 #[derive(Drop)]
 pub struct Rehearsed<'a> {
     pub answers: Vec<Answer>,

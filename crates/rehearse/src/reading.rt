@@ -21,6 +21,7 @@ pub enum Problem {
     NoMemory,
 }
 
+// As in the other program: each has problems of its own, and one line makes one of what is shared.
 impl From<io::Error> for Problem {
     fn from(error: io::Error) -> Problem {
         Problem::Unread(Unread::from(error))
@@ -60,7 +61,8 @@ impl fmt::Display for Fault {
     }
 }
 
-// The number that a word on that line stands for; the line is all that a fault tells of it.
+// The number that a word on that line stands for. A word and the number of its line are two: a value of both would be
+// made for each call, and taken apart in it.
 fn number(word: &str, line: usize) -> Result<u32, Problem> {
     read_number(word).map_err(|_| Problem::NoNumber { line })
 }
@@ -109,7 +111,7 @@ fn find_call(book: &Book, word: &str) -> Option<u32> {
 
 // The number of the call that a word tells, by its number or by its name.
 fn read_call(book: &Book, word: &str, line: usize) -> Result<u32, Problem> {
-    // a match, since the two errors part here
+    // a match, since the two errors part here: a closure for `or_else` would be the same match
     match read_number(word) {
         Ok(number) => Ok(number),
         Err(NotNumber::TooLarge) => Err(Problem::NoNumber { line }),

@@ -63,6 +63,7 @@ fn is_met(condition: Condition, answer: u32) -> bool
     }
 }
 
+// The two phases stay two loops: a guard is lent the cells of the one, and each step of the other has a condition.
 impl Held {
     // Runs the BEFOREs; a violation puts every cell back to what it held.
     pub(crate) fn run_befores(&mut self, rules: &Rules, befores: &[u8]) -> Result<(), Violation>

@@ -62,7 +62,8 @@ impl<R: Register> Run<R> {
         }
     }
 
-    // Makes a call that takes that many values: the BEFOREs, the act, the AFTERs.
+    // Makes a call that takes that many values: the BEFOREs, the act, the AFTERs. It comes to an answer and not to a
+    // `Result`: that it is denied, refused or stopped is an answer as good as that it is done.
     fn make(&mut self, call: &Call, values: &[u32]) -> Answer
         ensures is { record { answer = result; run = state_of R.Register.meaning self.new } ≡ by_befores (state_of R.Register.meaning self.old) (cl_of call.now) values.now (befores_from (policy_of self.old.table).clauses (given_before (cl_of call.now) values.now) 0 (cl_of call.now).befores (state_of R.Register.meaning self.old).cells) }
         ensures table { self.new.table ≡ self.old.table }

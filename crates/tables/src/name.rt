@@ -48,6 +48,7 @@ impl Name {
     pub fn trimmed(&self) -> &[u8]
         ensures { result.now ≡ trimmed_of self.now.letters }
     {
+        // a pattern says what goes; `rposition` would say what stays, and need one more
         let mut letters = &self.letters[..];
         while let [front @ .., b' '] = letters {
             letters = front;

@@ -45,7 +45,7 @@ impl<T, const N: usize> Rows<T, N> {
         self.held().last()
     }
 
-    // The row that came last, lent to be changed: the table then has what was made of it in its place.
+    // The row that came last, lent to be changed, by its index since only that says which row was lent: the table then has what was made of it in its place.
     pub fn last_mut(&mut self) -> Option<&mut T>
         ensures* lends { sem 𝓛 (follows_so (the_row T.row N.row) T.row self.entry.ghost_name (name_of result) (LastIs self.old) (λ n. n ≡ self.old)) }
         ensures value { option_map (λ x. x.now) result ≡ last_of (rows_of self.old) }
@@ -68,7 +68,8 @@ impl<T: Copy, const N: usize> Rows<T, N> {
         }
     }
 
-    // Puts a row at that number, where there is one.
+    // Puts a row at that number, where there is one. By its index: no contract says what a slice ends as after a write
+    // through its `get_mut`.
     pub fn set(&mut self, number: usize, row: T)
         ensures { rows_of self.new ≡ slice_set (rows_of self.old) number row }
     {
@@ -77,7 +78,8 @@ impl<T: Copy, const N: usize> Rows<T, N> {
         }
     }
 
-    // Adds a row where there is room, and says whether there was. The count is kept by hand, the array being fixed.
+    // Adds a row where there is room, and says whether there was. The count is kept by hand, the array being fixed; the
+    // answer is a `bool` and no `Result`, since a full table is no error here: who adds has asked before, or is refused first.
     pub fn push(&mut self, row: T) -> bool
         ensures after { rows_of self.new ≡ pushed N (rows_of self.old) row }
         ensures done { result ≡ roomy N (rows_of self.old) }
