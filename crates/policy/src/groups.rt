@@ -39,8 +39,9 @@ struct Walk {
 }
 
 impl Table {
-    // Flags what the group of that number covers, each by its bound, in one line that no other walk has; a group that was walked before is not walked
-    // again.
+    // Flags what the group of that number covers; a group that was walked before is not walked
+    // again. A flag is raised where it lies within the array, as marking does with its own: one
+    // function for that line would have to stand below both.
     fn walk(&self, number: usize, walk: &mut Walk)
         requires { Complete (policy_of self.now).groups walk.old.walked walk.old.covers }
         ensures complete { Complete (policy_of self.now).groups walk.new.walked walk.new.covers }
