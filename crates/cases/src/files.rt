@@ -1,5 +1,7 @@
 // What the cases share: the example's files, a table of refusals, and files that repeat a part.
 use format::refusal::Refused;
+use loading::load::load;
+use policy::table::Table;
 use std::alloc::Global;
 use std::process::Abort;
 use std::test::Fail;
@@ -11,6 +13,13 @@ pub(crate) const BOOK: &[u8; 81] =
 // The example policy: two cells, and the clauses limit, count, looks and rebury.
 pub(crate) const POLICY: &[u8; 78] =
     b"@\x00\x00\x00\x00@\x00\x00\x00\x00\x90\x00limit   \xb0\x03\x00\x00\x00\x00\x02\x02\x00\x00\x00\x00\x01\x90\x00count   a\x00\x00\x00\x00\x00\x01\x90\x01looks   a\x01\x00\x00\x00\x00\x01\x90\x02rebury  \x01";
+
+// The table of the example book and that policy.
+pub(crate) fn example_table(rt: &impl Abort, policy: &[u8]) -> Table {
+    let mut table = Table::empty();
+    assert!(rt; load(Some(BOOK), Some(policy), &mut table).is_ok());
+    table
+}
 
 // A file, and the number and the offset with which it is refused.
 #[derive(Clone, Copy)]

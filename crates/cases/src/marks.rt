@@ -1,18 +1,11 @@
 // Tables that are marked: the example, an empty policy, a long chain, a cycle, a group that covers nothing.
-use crate::files::{BOOK, POLICY, chain};
-use loading::load::load;
+use crate::files::{POLICY, chain, example_table};
 use policy::table::Table;
 use pruning::marking::mark;
 use pruning::marks::Marks;
 use pruning::reasons::Marking;
 use std::process::Abort;
 use std::test::Fail;
-
-fn example_table(rt: &impl Abort, policy: &[u8]) -> Table {
-    let mut table = Table::empty();
-    assert!(rt; load(Some(BOOK), Some(policy), &mut table).is_ok());
-    table
-}
 
 // How many steps of each call of the example book are kept, and how many there are.
 fn check_steps(rt: &impl Abort, table: &Table, marks: &Marks, kept: [usize; 3]) {

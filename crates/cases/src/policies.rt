@@ -1,5 +1,5 @@
 // Files read as policies against the example book: refusals, counts, coverage, naming, and the example cut short and changed.
-use crate::files::{BOOK, POLICY, check_all, check_count, refused, repeated};
+use crate::files::{BOOK, POLICY, check_all, check_count, example_table, refused, repeated};
 use book::table::Book;
 use book_file::reading::read_book;
 use format::refusal::Refused;
@@ -32,6 +32,7 @@ fn check_empty(rt: &impl Abort, table: &Table) {
     );
 }
 
+// As for books, into this file's own kind of table, which is asked for its own rows.
 // Reads the file into a table that holds the example; a refused one leaves the table of two empty
 // files.
 fn read_over(rt: &impl Abort, file: &[u8]) -> Result<(), Refused> {
@@ -250,17 +251,9 @@ fn a_chain_of_32_groups_covers(rt: HostRuntime) -> Result<(), Fail> {
     check_applies(&rt, file.as_slice(), [false, false, true])
 }
 
-// The example's table.
-fn example_table(rt: &impl Abort) -> Table {
-    let book = example_book(rt);
-    let mut table = Table::empty();
-    assert!(rt; read_policy(POLICY, &book, &mut table).is_ok());
-    table
-}
-
 // What is asked has that name in the two files, or no name, with that number.
 fn check_name(rt: &impl Abort, book: &[u8], policy: &[u8], asked: Asked, says: Result<&[u8], u8>) {
-    let table = example_table(rt);
+    let table = example_table(rt, POLICY);
     let answer = name_of(&table, asked, book, policy);
     assert_eq!(rt; answer.map_err(|refusal| refusal.number()), says);
 }

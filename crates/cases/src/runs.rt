@@ -32,6 +32,7 @@ fn cell(number: u32, says: &str) -> Step<'_> {
 }
 
 // Runs the requests in order on a register, each with its answer, and hands the register back.
+// A table and its steps go together through this file alone: a struct of both would be made once, and taken apart here.
 fn check_steps<R: Register + Drop>(
     rt: &(impl Abort + AllocGlobal),
     table: &Table,

@@ -97,6 +97,7 @@ fn run(rt: &HostRuntime) -> anyhow::Result<()> {
             )?;
             print_recorded(rt, burials.as_slice(), &recorded)
         }
+        // a fault is what the program prints, and no error of its own
         Err(fault) => {
             println!(rt; "{fault}")?;
             Ok(())
