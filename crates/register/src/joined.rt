@@ -55,14 +55,16 @@ impl<A: Register, B: Register> Register for Joined<A, B> {
         }
     }
 
+    // The test on the most plots comes first: a plot past it asks nothing of the grounds below.
     fn put(&mut self, plot: u32, entry: u32) -> Option<u32> {
+        if plot >= MOST {
+            return None;
+        }
         let seam = self.first.plots();
         if plot < seam {
             self.first.put(plot, entry)
-        } else if plot < MOST {
-            self.second.put(plot - seam, entry)
         } else {
-            None
+            self.second.put(plot - seam, entry)
         }
     }
 }

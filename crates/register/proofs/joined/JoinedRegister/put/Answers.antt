@@ -27,8 +27,8 @@ returns-then-plot-seam g c =
       );
     }
 
-pub returns-then-plot-lt-MOST : goal.returns-then-plot-lt-MOST
-returns-then-plot-lt-MOST g c =
+pub returns-else-plot-seam : goal.returns-else-plot-seam
+returns-else-plot-seam g c =
     let j = c.args.self.now in
     let xs = g.A.Register.meaning j.first in
     let ys = g.B.Register.meaning j.second in
@@ -37,8 +37,8 @@ returns-then-plot-lt-MOST g c =
     let m = c.plots-seam.result in
     let e = c.plots-seam.ensures.count in
     let h = c.if-plot-seam.false in
-    let k = c.if-plot-lt-MOST.true in
-    let put = c.put-then-plot-lt-MOST in
+    let k = c.if-plot-ge-MOST.false in
+    let put = c.put-else-plot-seam in
     let q = put.ensures.plots in
     record {
       found = put.ensures.found ∙ found_second most m xs ys e p v h k;
@@ -50,12 +50,12 @@ returns-then-plot-lt-MOST g c =
       );
     }
 
-pub returns-else-plot-lt-MOST : goal.returns-else-plot-lt-MOST
-returns-else-plot-lt-MOST g c =
+pub returns-then-plot-ge-MOST : goal.returns-then-plot-ge-MOST
+returns-then-plot-ge-MOST g c =
     let j = c.args.self.now in
     let xs = g.A.Register.meaning j.first in
     let ys = g.B.Register.meaning j.second in
-    let past = c.if-plot-lt-MOST.false in
+    let past = c.if-plot-ge-MOST.true in
     record {
       found = found_past most (xs ++ ys) c.args.plot c.args.entry past;
       plots = put_past most (xs ++ ys) c.args.plot c.args.entry past;
