@@ -36,8 +36,12 @@ impl Reading for BookReading {
 
     ghost longest = { λ _. refl };
 
+    // A book without operations and calls is empty already, and is not made again.
     fn start(&mut self) {
-        self.book = Book::empty();
+        let blank = self.book.operations().is_empty() && self.book.calls().is_empty();
+        if !blank {
+            self.book = Book::empty();
+        }
     }
 
     // These lines are each reader's own: shared, they would take the type of its commands through the law of reading.
@@ -69,7 +73,9 @@ pub fn read_book(file: &[u8], book: &mut Book) -> Result<(), Refused>
     ensures operation_names { Stand file.now (operation_places book.new) (map op_name (book_of book.new).operations) }
     ensures call_names { Stand file.now (call_places book.new) (map cl_name (book_of book.new).calls) }
 {
-    let mut reading = BookReading { book: *book };
+    let mut reading = BookReading {
+        book: Book::empty(),
+    };
     let answer = read(file, &mut reading);
     *book = reading.book;
     answer
