@@ -10,10 +10,10 @@ use book::table::{Book, Call};
 use book_lines::{ActLine, AfterLine, BeforeLine, CallLine, OperationLine};
 use loading::fault::Fault;
 use loading::found::found;
-use loading::load::load;
+use loading::load::{load_book, load_policy};
 use policy::table::Table;
 use policy_lines::{CellLine, ClauseLine, GroupLine};
-use std::fs;
+use std::{fs, io};
 
 // The parts of a call, in the order in which they run.
 fn print_parts(rt: &HostRuntime, book: &Book, call: &Call) -> anyhow::Result<()> {
@@ -80,17 +80,22 @@ fn print_policy(rt: &HostRuntime, table: &Table) -> anyhow::Result<()> {
     Ok(())
 }
 
-// Prints both files, or the one fault; the policy is opened only where the book is read.
-fn run(rt: &HostRuntime) -> anyhow::Result<()> {
-    let book = found(fs::read(rt, "book.bin"))?;
-    let mut table = Table::empty();
-    let mut loaded = load(book.as_deref(), None, &mut table);
-    if let Err(Fault::PolicyMissing) = loaded {
-        let policy = found(fs::read(rt, "policy.bin"))?;
-        loaded = load(book.as_deref(), policy.as_deref(), &mut table);
+// Reads both files into the table, or says the one fault; the policy is opened only where the book is read.
+fn read_files(rt: &HostRuntime, table: &mut Table) -> io::Result<Result<(), Fault>> {
+    let mut book = Book::empty();
+    let file = found(fs::read(rt, "book.bin"))?;
+    if let Err(fault) = load_book(file.as_deref(), &mut book) {
+        return Ok(Err(fault));
     }
+    let file = found(fs::read(rt, "policy.bin"))?;
+    Ok(load_policy(file.as_deref(), &book, table))
+}
+
+// Prints both files, or the one fault.
+fn run(rt: &HostRuntime) -> anyhow::Result<()> {
+    let mut table = Table::empty();
     // a fault is what the program prints, and no error of its own
-    if let Err(fault) = loaded {
+    if let Err(fault) = read_files(rt, &mut table)? {
         println!(rt; "{fault}")?;
         return Ok(());
     }

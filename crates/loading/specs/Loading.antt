@@ -1,5 +1,5 @@
 -- What the two files give: the full table, or the first fault.
-use Rattle.std.specs.Prelude.{ℕ, List, Some, None, Ok, Err, Option, Result}
+use Rattle.std.specs.Prelude.{ℕ, List, [], Some, None, Ok, Err, Option, Result}
 use Rattle.book.specs.Books.{Bk, empty_book}
 use Rattle.book_file.specs.Law.{book_format}
 use Rattle.format.specs.Format.{read_file}
@@ -21,10 +21,20 @@ with_book policy (Err e) = Err (bad_book e)
 with_book None (Ok b) = Err no_policy
 with_book (Some policy) (Ok b) = with_policy b (read_file (policy_format b) policy)
 
+-- what reading a book gives, told as the loading of it
+abbrev pub as_loaded : Result Bk At → Result Bk Trouble
+as_loaded (Ok b) = Ok b
+as_loaded (Err e) = Err (bad_book e)
+
 -- what both files give, where they are there
 abbrev pub loaded : Option (List ℕ) → Option (List ℕ) → Result Tb Trouble
 loaded None policy = Err no_book
 loaded (Some book) policy = with_book policy (read_file book_format book)
+
+-- what the book's file gives, where it is there
+abbrev pub book_loaded : Option (List ℕ) → Result Bk Trouble
+book_loaded None = Err no_book
+book_loaded (Some book) = as_loaded (read_file book_format book)
 
 -- what loading answers
 abbrev pub verdict_of : Result Tb Trouble → Result (Unit {0}) Trouble
@@ -35,3 +45,18 @@ verdict_of (Err e) = Err e
 abbrev pub table_after : Result Tb Trouble → Tb
 table_after (Ok t) = t
 table_after (Err e) = record { book = empty_book; policy = empty_policy }
+
+-- what loading a book alone answers
+abbrev pub book_verdict : Result Bk Trouble → Result (Unit {0}) Trouble
+book_verdict (Ok b) = Ok tt
+book_verdict (Err e) = Err e
+
+-- the book that loading it leaves: that of the file, or that of an empty file
+abbrev pub book_after : Result Bk Trouble → Bk
+book_after (Ok b) = b
+book_after (Err e) = empty_book
+
+-- the places of names of the book that loading leaves: its own, or none
+abbrev pub places_after : Result Tb Trouble → List ℕ → List ℕ
+places_after (Ok t) places = places
+places_after (Err e) places = []
