@@ -8,7 +8,8 @@ pub const ANSWER: u8 = 255;
 pub fn has(marks: &[u8], mark: u8) -> bool
     ensures { result ≡ has_mark marks.now mark }
 {
-    marks.contains(&mark)
+    // `any` and not `contains`: a wrong comparison can then be planted, and is refused for what it answers
+    marks.iter().any(|other| *other == mark)
 }
 
 // Whether each mark that is needed is one of those given or one of the fields.

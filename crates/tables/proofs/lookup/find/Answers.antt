@@ -13,4 +13,5 @@ returns g c =
     let rs = c.args.records.now in
     let n = c.args.name.now.letters in
     let found = position_from_yields_List (λ x. bytes_eq (f x) n) _ _ c.position.result c.position.ensures.ran (YieldsList-from_slice rs cc) (λ x b q k. search (rules, tests)) ∙ sym (first_named-position f n rs) in
-    record { is = found; place = subst (FirstPlace (map f rs) n) (sym found) (place_named (map f rs) n); within = search rules }
+    let place = subst (FirstPlace (map f rs) n) (sym found) (place_named (map f rs) n) in
+    search rules
