@@ -1,5 +1,6 @@
 pub mod Tests
 pub mod Bytes
+pub mod Commands
 pub mod Places
 pub mod Sizes
 pub mod Steps

@@ -1,5 +1,5 @@
 -- Entries and puts where numbers are cut and where grounds are joined; n is where they are cut.
-use Rattle.std.proofs.Common.{◌≡◌, ℕ, ◌-◌, ◌<◌, ◌≤◌, List, ◌++◌, length, take, drop, set, Some, None, sym, ap, ◌∙◌, arith}
+use Rattle.std.proofs.Common.{◌≡◌, ℕ, zero, suc, ◌-◌, ◌<◌, ◌≤◌, List, [], ◌∷◌, ◌++◌, length, take, drop, set, Some, None, sym, refl, ap, ◌∙◌, arith}
 use Rattle.std.proofs.lemmas.List.{take-append-drop, set-append_left, set-append_right, set_past, drop-set-lt}
 use Rattle.std.proofs.Math.Seq.{take-set-lt}
 use Rattle.std.proofs.lemmas.Grind.{common_steps}
@@ -51,3 +51,10 @@ module _ (n m : ℕ) (xs ys : List ℕ) (e : m ≡ length xs) (p v : ℕ) where
 
   pub rest_second : m ≤ p → p < n → drop n (xs ++ set ys (p - m) v) ≡ drop n (xs ++ ys)
   rest_second h k = ap (drop n) (second_whole h) ∙ drop-set-lt n (xs ++ ys) p v k
+
+-- numbers that are put and then cut are those that are cut and then put; here p may lie past the cut
+pub take-set : (n : ℕ) (xs : List ℕ) (p v : ℕ) → take n (set xs p v) ≡ set (take n xs) p v
+take-set zero xs p v = refl
+take-set (suc n) [] p v = refl
+take-set (suc n) (x ∷ xs) zero v = refl
+take-set (suc n) (x ∷ xs) (suc p) v = ap (λ ys. x ∷ ys) (take-set n xs p v)

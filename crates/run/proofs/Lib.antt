@@ -1,3 +1,5 @@
+pub mod Acting
 pub mod Filling
 pub mod Marks
 pub mod Reporting
+pub mod Stepping
