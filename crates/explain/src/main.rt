@@ -8,12 +8,11 @@ mod tests;
 
 use book::table::{Book, Call};
 use book_lines::{ActLine, AfterLine, BeforeLine, CallLine, OperationLine};
-use loading::fault::Fault;
 use loading::found::found;
 use loading::load::{load_book, load_policy};
 use policy::table::Table;
 use policy_lines::{CellLine, ClauseLine, GroupLine};
-use std::{fs, io};
+use std::fs;
 
 // The parts of a call, in the order in which they run.
 fn print_parts(rt: &HostRuntime, book: &Book, call: &Call) -> anyhow::Result<()> {
@@ -80,27 +79,28 @@ fn print_policy(rt: &HostRuntime, table: &Table) -> anyhow::Result<()> {
     Ok(())
 }
 
-// Reads both files into the table, or says the one fault; the policy is opened only where the book is read.
-fn read_files(rt: &HostRuntime, table: &mut Table) -> io::Result<Result<(), Fault>> {
-    let mut book = Book::empty();
-    let file = found(fs::read(rt, "book.bin"))?;
-    if let Err(fault) = load_book(file.as_deref(), &mut book) {
-        return Ok(Err(fault));
-    }
+// Reads the policy against the book and prints both, or the policy's fault.
+fn explain(rt: &HostRuntime, book: &Book) -> anyhow::Result<()> {
     let file = found(fs::read(rt, "policy.bin"))?;
-    Ok(load_policy(file.as_deref(), &book, table))
-}
-
-// Prints both files, or the one fault.
-fn run(rt: &HostRuntime) -> anyhow::Result<()> {
     let mut table = Table::empty();
-    // a fault is what the program prints, and no error of its own
-    if let Err(fault) = read_files(rt, &mut table)? {
+    // a fault, here and below, is what the program prints, and no error of its own
+    if let Err(fault) = load_policy(file.as_deref(), book, &mut table) {
         println!(rt; "{fault}")?;
         return Ok(());
     }
     print_book(rt, table.book())?;
     print_policy(rt, &table)
+}
+
+// Prints both files, or the one fault; the policy is opened, and a table made, only where the book is read.
+fn run(rt: &HostRuntime) -> anyhow::Result<()> {
+    let file = found(fs::read(rt, "book.bin"))?;
+    let mut book = Book::empty();
+    if let Err(fault) = load_book(file.as_deref(), &mut book) {
+        println!(rt; "{fault}")?;
+        return Ok(());
+    }
+    explain(rt, &book)
 }
 
 fn main(rt: HostRuntime) -> anyhow::Result<()> {
