@@ -59,5 +59,7 @@ pub fn load(book: Option<&[u8]>, policy: Option<&[u8]>, table: &mut Table) -> Re
     *table = Table::empty();
     let mut read = Book::empty();
     load_book(book, &mut read)?;
-    load_policy(policy, &read, table)
+    // and not load_policy: the table is empty already, and that would fill another one in its place
+    let policy = policy.ok_or(Fault::PolicyMissing)?;
+    read_policy(policy, &read, table).map_err(Fault::PolicyRefused)
 }
